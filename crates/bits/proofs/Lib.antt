@@ -1,0 +1,5 @@
+pub mod BitLaws
+pub mod FieldLaws
+pub mod PutLaws
+pub mod WordLaws
+pub mod Appends
