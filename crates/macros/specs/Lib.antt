@@ -1,0 +1,3 @@
+pub mod Macro
+pub mod Layout
+pub mod Faults
