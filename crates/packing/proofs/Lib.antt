@@ -1,0 +1,9 @@
+pub mod Steps
+pub mod Rows
+pub mod EdgeRows
+pub mod Files
+pub mod Ranges
+pub mod Inverse
+pub mod Headers
+pub mod RoundTrip
+pub mod Promised
