@@ -4,9 +4,9 @@ use mathlib.Core.List.{List}
 use mathlib.Core.Path.{_≡_, refl, sym, ap, subst, _∙_}
 use native.Mathlib.Omega.{arith}
 use Rattle.bits.specs.Field.{field}
-use Rattle.reading.specs.declared.fields.EdgeFields.{EdgeFields}
-use Rattle.reading.specs.declared.fields.HeaderFields.{HeaderFields}
-use Rattle.reading.specs.Decode.{edgeFieldsAt, headerFieldsAt}
+use Rattle.decoding.specs.declared.fields.EdgeFields.{EdgeFields}
+use Rattle.decoding.specs.declared.fields.HeaderFields.{HeaderFields}
+use Rattle.decoding.specs.Decode.{edgeFieldsAt, headerFieldsAt}
 use Rattle.packing.specs.Packing.{edgeList, headerList}
 use Rattle.packing.proofs.Rows.{Held, Row, held-same, total}
 

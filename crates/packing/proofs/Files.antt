@@ -10,7 +10,7 @@ use Rattle.bits.proofs.Appends.{zero-bytes}
 use Rattle.macros.specs.declared.parts.Edge.{Edge}
 use Rattle.macros.specs.Layout.{edgeBit, fileLength}
 use Rattle.macros.specs.Macro.{Macro}
-use Rattle.reading.specs.declared.fields.HeaderFields.{HeaderFields}
+use Rattle.decoding.specs.declared.fields.HeaderFields.{HeaderFields}
 use Rattle.packing.specs.Encode.{fieldsOf, headerFields}
 use Rattle.packing.specs.Packing.{edgeList, headerList, packed, putEdges, putFields, putMacro}
 use Rattle.packing.proofs.EdgeRows.{edge-row, edge-total, header-row, header-total}

@@ -13,8 +13,8 @@ use Rattle.macros.specs.declared.parts.Header.{Header}
 use Rattle.macros.specs.Faults.{inHeader, same}
 use Rattle.macros.specs.Layout.{fileLength}
 use Rattle.macros.specs.Macro.{Macro, headerOf}
-use Rattle.reading.specs.declared.fields.HeaderFields.{HeaderFields}
-use Rattle.reading.specs.Decode.{below, decodeHeader, headerFieldsAt, within, zeroed}
+use Rattle.decoding.specs.declared.fields.HeaderFields.{HeaderFields}
+use Rattle.decoding.specs.Decode.{below, decodeHeader, headerFieldsAt, within, zeroed}
 use Rattle.reading.specs.Reading.{readHeader}
 use Rattle.reading.proofs.Binds.{bind-ok, cond-not-ok, cond-ok, ok-same}
 use Rattle.packing.specs.Encode.{headerFields}

@@ -18,8 +18,8 @@ use Rattle.macros.specs.declared.parts.Operand.{Operand}
 use Rattle.macros.specs.declared.parts.Operand.the-variants.{Variable}
 use Rattle.macros.specs.declared.parts.Operation.{Operation}
 use Rattle.macros.specs.Faults.{same}
-use Rattle.reading.specs.declared.fields.EdgeFields.{EdgeFields}
-use Rattle.reading.specs.Decode.{arithmeticOf, below, comparisonOf, decodeCompute, decodeEdge, decodeOperand, decodeOperation, decodeRead, decodeSet, decodeTest, zeroed}
+use Rattle.decoding.specs.declared.fields.EdgeFields.{EdgeFields}
+use Rattle.decoding.specs.Decode.{arithmeticOf, below, comparisonOf, decodeCompute, decodeEdge, decodeOperand, decodeOperation, decodeRead, decodeSet, decodeTest, zeroed}
 use Rattle.reading.proofs.Binds.{bind-ok, ok-same}
 use Rattle.packing.specs.Encode.{arithmeticForm, comparisonForm, fieldsOf, markOf, none, numberOf, numbers, operationFields}
 use Rattle.packing.specs.Range.{Edge-in-range, Operand-in-range, Operation-in-range}

@@ -15,7 +15,7 @@ use Rattle.macros.specs.declared.parts.Header.{Header}
 use Rattle.macros.specs.Faults.{bind, inEdge, inEdges, inHeader}
 use Rattle.macros.specs.Layout.{edgeBit, fileLength}
 use Rattle.macros.specs.Macro.{Macro, headerOf}
-use Rattle.reading.specs.Decode.{decodeEdge, decodeHeader}
+use Rattle.decoding.specs.Decode.{decodeEdge, decodeHeader}
 use Rattle.reading.specs.Reading.{readMacro}
 use Rattle.reading.proofs.Binds.{bind-ok, ok-same}
 use Rattle.reading.proofs.Edges.{header-length, macro-holds}

@@ -26,7 +26,7 @@ use Rattle.macros.specs.declared.parts.Operation.the-variants.{Set, Compute, Re
 use Rattle.macros.specs.Faults.{bind, inEdge, same}
 use Rattle.macros.specs.Layout.{edgeBit, fileLength}
 use Rattle.macros.specs.Macro.{Macro, headerOf}
-use Rattle.reading.specs.Decode.{decodeEdge, decodeHeader, edgeFieldsAt, headerFieldsAt}
+use Rattle.decoding.specs.Decode.{decodeEdge, decodeHeader, edgeFieldsAt, headerFieldsAt}
 use Rattle.reading.specs.Reading.{readEdge, readEdges, readHeader, readMacro}
 use Rattle.reading.proofs.Binds.{bind-ok, ok-same}
 use Rattle.reading.proofs.Edges.{header-length, holds-macro, macro-holds}

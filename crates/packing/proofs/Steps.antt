@@ -10,8 +10,8 @@ use Rattle.macros.specs.declared.parts.Edge.{Edge}
 use Rattle.macros.specs.declared.parts.Header.{Header}
 use Rattle.macros.specs.Faults.{bind, inEdge}
 use Rattle.macros.specs.Layout.{edgeBit}
-use Rattle.reading.specs.declared.fields.EdgeFields.{EdgeFields}
-use Rattle.reading.specs.Decode.{decodeEdge}
+use Rattle.decoding.specs.declared.fields.EdgeFields.{EdgeFields}
+use Rattle.decoding.specs.Decode.{decodeEdge}
 use Rattle.packing.specs.Encode.{fieldsOf}
 use Rattle.packing.specs.Packing.{edgeList, putEdges, putFields, testEdges}
 

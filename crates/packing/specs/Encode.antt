@@ -15,8 +15,8 @@ use Rattle.macros.specs.declared.parts.Operand.the-variants.{Constant, Variable
 use Rattle.macros.specs.declared.parts.Operation.{Operation}
 use Rattle.macros.specs.declared.parts.Operation.the-variants.{Set, Compute, Read, Test}
 use Rattle.macros.specs.Macro.{Macro}
-use Rattle.reading.specs.declared.fields.EdgeFields.{EdgeFields}
-use Rattle.reading.specs.declared.fields.HeaderFields.{HeaderFields}
+use Rattle.decoding.specs.declared.fields.EdgeFields.{EdgeFields}
+use Rattle.decoding.specs.declared.fields.HeaderFields.{HeaderFields}
 use Rattle.packing.specs.declared.encode.Macro.{Macro as Given}
 
 -- the macro that a caller hands over

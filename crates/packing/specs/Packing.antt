@@ -16,9 +16,9 @@ use Rattle.macros.specs.declared.parts.Header.{Header}
 use Rattle.macros.specs.Faults.{bind, inEdge, inEdges, inHeader}
 use Rattle.macros.specs.Layout.{edgeBit, fileLength, offset, width}
 use Rattle.macros.specs.Macro.{Macro}
-use Rattle.reading.specs.declared.fields.EdgeFields.{EdgeFields}
-use Rattle.reading.specs.declared.fields.HeaderFields.{HeaderFields}
-use Rattle.reading.specs.Decode.{decodeEdge, decodeHeader}
+use Rattle.decoding.specs.declared.fields.EdgeFields.{EdgeFields}
+use Rattle.decoding.specs.declared.fields.HeaderFields.{HeaderFields}
+use Rattle.decoding.specs.Decode.{decodeEdge, decodeHeader}
 use Rattle.packing.specs.declared.faults.PackRefusal.{PackRefusal}
 use Rattle.packing.specs.declared.faults.RoomFault.{RoomFault}
 use Rattle.packing.specs.Encode.{fieldsOf, headerFields}

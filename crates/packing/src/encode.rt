@@ -2,13 +2,13 @@
 ghost use Rattle.packing.specs.Encode.{arithmeticForm, comparisonForm, fieldsOf, given, headerFields, markOf, numberOf, numbers};
 ghost use Rattle.packing.specs.Range.{Sized-edge, Sized-operand};
 ghost use mathlib.Core.Path.{_≡_};
+use decoding::fields::EdgeFields;
+use decoding::fields::HeaderFields;
 use macros::parts::Arithmetic;
 use macros::parts::Comparison;
 use macros::parts::Edge;
 use macros::parts::Operand;
 use macros::parts::Operation;
-use reading::fields::EdgeFields;
-use reading::fields::HeaderFields;
 
 /// A macro that is not packed: how many variables and places it has, which place is guarded, and its edges.
 #[derive(Clone, Copy)]

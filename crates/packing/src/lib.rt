@@ -9,6 +9,8 @@ ghost use Rattle.std.specs.declared.result.Result.the-variants.{Ok};
 ghost use lib.ListN.{drop, length, replicate};
 ghost use mathlib.Core.List.{_++_};
 ghost use mathlib.Core.Path.{_≡_};
+use decoding::decode_edge;
+use decoding::decode_header;
 use encode::edge_fields;
 use encode::header_fields;
 use faults::PackRefusalFromMacro;
@@ -20,8 +22,6 @@ use macros::faults::MacroFaultFromEdge;
 use macros::faults::MacroFaultFromField;
 use macros::parts::Edge;
 use macros::parts::Header;
-use reading::decode::decode_edge;
-use reading::decode::decode_header;
 use writing::write_edges;
 use writing::write_header;
 

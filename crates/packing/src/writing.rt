@@ -7,10 +7,10 @@ ghost use lib.ListN.{length};
 ghost use mathlib.Core.Path.{_≡_};
 use crate::encode::edge_fields;
 use bits::write_field;
+use decoding::fields::EdgeFields;
+use decoding::fields::HeaderFields;
 use macros::layout::Field;
 use macros::parts::Edge;
-use reading::fields::EdgeFields;
-use reading::fields::HeaderFields;
 
 /// Writes a field of the header or edge that begins at bit `at`.
 fn write_at(bytes: &mut [u8], at: usize, field: Field, number: u32)

@@ -1,7 +1,5 @@
-//! Runs the commands of the server program on many lists of words, in one run, and then some macros through `pack`.
+//! Runs the commands of the server program on many lists of words, in one run.
 //! What a failure says goes to standard output here, so that it can be compared too.
-mod packs;
-
 use bench_commands::failure::FailureDisplay;
 use std::io;
 
@@ -70,8 +68,7 @@ fn cases(rt: &LibcRuntime) -> io::Result<()> {
     case(rt, &["show"])?;
     case(rt, &["show", "a.bin", "b.bin"])?;
     case(rt, &["demo", "a.bin"])?;
-    case(rt, &["demo"])?;
-    packs::cases(rt)
+    case(rt, &["demo"])
 }
 
 fn main(rt: LibcRuntime) -> io::Result<()> {

@@ -14,7 +14,7 @@ use Rattle.macros.specs.declared.parts.Header.{Header}
 use Rattle.macros.specs.Macro.{Macro, headerOf, macroOf}
 use Rattle.macros.specs.Faults.{bind, same, tested, inEdges, inHeader}
 use Rattle.macros.specs.Layout.{fileLength}
-use Rattle.reading.specs.Decode.{decodeHeader, headerFieldsAt}
+use Rattle.decoding.specs.Decode.{decodeHeader, headerFieldsAt}
 use Rattle.reading.specs.Reading.{readEdge, readEdges, readHeader, readMacro, headed}
 use Rattle.reading.proofs.Binds.{bind-ok, cond-ok, cond-not-ok, ok-same}
 

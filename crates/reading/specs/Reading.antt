@@ -17,7 +17,7 @@ use Rattle.macros.specs.declared.parts.Header.{Header}
 use Rattle.macros.specs.Macro.{Macro, headerOf, macroOf}
 use Rattle.macros.specs.Faults.{bind, same, inEdge, inEdges, inHeader, toldMacro}
 use Rattle.macros.specs.Layout.{edgeBit, fileLength}
-use Rattle.reading.specs.Decode.{decodeEdge, decodeHeader, edgeFieldsAt, headerFieldsAt}
+use Rattle.decoding.specs.Decode.{decodeEdge, decodeHeader, edgeFieldsAt, headerFieldsAt}
 
 -- a file of `found` bytes where `expected` are asked for
 abbrev pub wrongLength : ℕ → ℕ → MacroFault

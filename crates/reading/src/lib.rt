@@ -1,8 +1,5 @@
 //! Reading a packed macro: its header, an edge by its number, and the whole file.
 //! A file is tested by `read`, and its edges are then had one by one by `edge_at`.
-pub mod decode;
-pub mod fields;
-
 ghost use Prim.Native.Nat.{_+_, _*_, _<_};
 ghost use Rattle.macros.specs.Faults.{bind, inEdges};
 ghost use Rattle.macros.specs.Layout.{fileLength};
@@ -10,10 +7,10 @@ ghost use Rattle.reading.specs.Reading.{headed, inRead, readAnswer, readEdge, 
 ghost use Rattle.std.specs.declared.result.Result.the-variants.{Ok};
 ghost use lib.ListN.{length};
 ghost use mathlib.Core.Path.{_≡_};
-use crate::decode::decode_edge;
-use crate::decode::decode_header;
-use crate::fields::read_edge_fields;
-use crate::fields::read_header_fields;
+use decoding::decode_edge;
+use decoding::decode_header;
+use decoding::fields::read_edge_fields;
+use decoding::fields::read_header_fields;
 use macros::faults::Call;
 use macros::faults::EdgeFault;
 use macros::faults::EdgeFaultFromField;

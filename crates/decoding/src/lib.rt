@@ -1,10 +1,12 @@
 //! From the numbers in the fields to what they mean. Reading and packing share these tests,
 //! so that both refuse the same numbers at the same spot.
+pub mod fields;
+
 ghost use Prim.Native.Nat.{_+_, _^_, _<_};
-ghost use Rattle.reading.specs.Decode.{arithmeticOf, below as isBelow, comparisonOf, decodeCompute, decodeEdge, decodeHeader, decodeOperand, decodeOperation, decodeRead, decodeSet, decodeTest, within as isWithin, wrong as isWrong, zeroed as isZeroed};
+ghost use Rattle.decoding.specs.Decode.{arithmeticOf, below as isBelow, comparisonOf, decodeCompute, decodeEdge, decodeHeader, decodeOperand, decodeOperation, decodeRead, decodeSet, decodeTest, within as isWithin, wrong as isWrong, zeroed as isZeroed};
 ghost use mathlib.Core.Path.{_≡_};
-use crate::fields::EdgeFields;
-use crate::fields::HeaderFields;
+use fields::EdgeFields;
+use fields::HeaderFields;
 use macros::faults::FieldFault;
 use macros::layout::Field;
 use macros::parts::Arithmetic;

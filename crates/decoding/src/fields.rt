@@ -1,6 +1,6 @@
 //! The numbers of the file, as they lie in its fields and before they mean anything.
 ghost use Prim.Native.Nat.{_+_, _*_, _^_, _<_, _≤_};
-ghost use Rattle.reading.specs.Decode.{edgeFieldsAt, headerFieldsAt};
+ghost use Rattle.decoding.specs.Decode.{edgeFieldsAt, headerFieldsAt};
 ghost use Rattle.macros.specs.Layout.{fieldAt, offset, width};
 ghost use lib.ListN.{length};
 ghost use mathlib.Core.Path.{_≡_};
@@ -39,7 +39,7 @@ fn read_at(bytes: &[u8], at: usize, field: Field) -> u32
     read_field(bytes, at + field.offset(), field.width())
 }
 
-pub(crate) fn read_header_fields(bytes: &[u8]) -> HeaderFields
+pub fn read_header_fields(bytes: &[u8]) -> HeaderFields
     requires { ⌜ 4 ≤ length (now bytes) ⌝ }
     ensures { λ r. ⌜ r ≡ headerFieldsAt (now (bytes .entry)) ⌝ }
 {
@@ -53,7 +53,7 @@ pub(crate) fn read_header_fields(bytes: &[u8]) -> HeaderFields
 }
 
 /// The fields of the edge that begins at bit `at`.
-pub(crate) fn read_edge_fields(bytes: &[u8], at: usize) -> EdgeFields
+pub fn read_edge_fields(bytes: &[u8], at: usize) -> EdgeFields
     requires { ⌜ at + 96 ≤ 8 * length (now bytes) ⌝ ∗ ⌜ at + 96 < 2 ^ 64 ⌝ }
     ensures { λ r. ⌜ r ≡ edgeFieldsAt (now (bytes .entry)) at ⌝ }
 {

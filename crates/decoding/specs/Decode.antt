@@ -9,8 +9,8 @@ use mir.Val.{toZ}
 use Rattle.std.specs.declared.result.Result.{Result}
 use Rattle.std.specs.declared.result.Result.the-variants.{Ok, Err}
 use Rattle.macros.specs.declared.faults.FieldFault.{FieldFault}
-use Rattle.reading.specs.declared.fields.EdgeFields.{EdgeFields}
-use Rattle.reading.specs.declared.fields.HeaderFields.{HeaderFields}
+use Rattle.decoding.specs.declared.fields.EdgeFields.{EdgeFields}
+use Rattle.decoding.specs.declared.fields.HeaderFields.{HeaderFields}
 use Rattle.macros.specs.declared.layout.Field.{Field}
 use Rattle.macros.specs.declared.layout.Field.the-variants.{Variables, Places, Guarded, Edges, HeaderFilling, From, To, Form, Target, LeftMark, Left, RightMark, Right, EdgeFilling}
 use Rattle.macros.specs.declared.parts.Arithmetic.{Arithmetic}
