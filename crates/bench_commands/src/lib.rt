@@ -1,4 +1,7 @@
 //! The commands of the server program, over a list of words.
+
+#![tactic(auto)]
+
 mod command;
 mod demo;
 pub mod failure;

@@ -1,5 +1,8 @@
 //! Fields of up to 32 bits at any place of a slice of bytes, most significant bit first.
 //! A field is read and written through one word of 8 bytes, and bit by bit where the slice is shorter than that.
+
+#![tactic(auto)]
+
 ghost use Rattle.std.specs.Prelude.{◌≡◌, ◌+◌, ◌*◌, ◌/◌, ◌%◌, ◌^◌, ◌<◌, ◌≤◌, length};
 ghost use Rattle.bits.specs.Field.{field, put, with_bit};
 ghost use Rattle.bits.specs.Laws.{FieldSplits, LengthKept, OthersKept, OwnKept, ReadsBack};

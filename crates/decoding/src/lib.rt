@@ -1,5 +1,8 @@
 //! From the numbers in the fields to what they mean. Reading and packing share these tests,
 //! so that both refuse the same numbers at the same spot.
+
+#![tactic(auto)]
+
 pub mod fields;
 
 ghost use Rattle.std.specs.Prelude.{◌≡◌, ◌+◌, ◌^◌, ◌<◌};

@@ -1,4 +1,7 @@
 //! The command `run` of the server program, over a list of words.
+
+#![tactic(auto)]
+
 mod drive;
 pub mod failure;
 mod files;

@@ -1,4 +1,7 @@
 //! The kind exact: a value is one known number, or it is not known.
+
+#![tactic(auto)]
+
 ghost use Rattle.exact.specs.Exact.{exact_ops};
 ghost use Rattle.kinds.specs.Kind.{Simple};
 

@@ -1,4 +1,7 @@
 //! Works out every call of the data files, and prints which answers differ from the expected ones and how many agree.
+
+#![tactic(auto)]
+
 use anyhow::anyhow;
 use std::fs;
 use table::Table;

@@ -1,4 +1,7 @@
 //! The one interface for a kind of value: sets of numbers, and how the bench and the machine end work with them.
+
+#![tactic(auto)]
+
 ghost use Rattle.std.specs.Prelude.{◌≡◌, ◌+◌, ◌*◌, ◌^◌, ◌<◌, ◌≤◌, length, slice_index};
 ghost use Rattle.bits.specs.Field.{field, put};
 ghost use Rattle.kinds.specs.Codes.{ReadWrites, WrittenReads};

@@ -1,4 +1,7 @@
 //! The worked examples of the rule book, proved together from the definitions by computation.
+
+#![tactic(auto)]
+
 ghost use Rattle.known_answers.specs.Arithmetic.{Remainders, ResultsWrap};
 ghost use Rattle.known_answers.specs.Drives.{PathsAreDriven};
 ghost use Rattle.known_answers.specs.Exact.{ExactCodes, ExactCombines, ExactNarrows};

@@ -1,4 +1,7 @@
 //! The arithmetic of a macro's run, and its comparisons, on signed numbers of 32 bits.
+
+#![tactic(auto)]
+
 ghost use Rattle.numbers.specs.Arithmetic.{computed, holds};
 ghost use Rattle.numbers.specs.Rules.{ComparesHeld, ComputedGiven, GivenComputed, HeldCompares};
 ghost use Rattle.std.specs.Prelude.{◌≡◌};

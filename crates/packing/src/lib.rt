@@ -1,4 +1,7 @@
 //! Packing a macro into lent bytes: what reading would refuse is refused at the same spot, and what is packed reads back.
+
+#![tactic(auto)]
+
 ghost use Rattle.std.specs.Prelude.{◌≡◌, ◌+◌, ◌*◌, ◌<◌, ◌≤◌, ◌++◌, length, drop, replicate, Ok, OnOk};
 ghost use Rattle.macros.specs.Lent.{given};
 ghost use Rattle.packing.specs.Packing.{pack_answer, pack_memory, test_edges, test_macro, test_room};

@@ -1,4 +1,7 @@
 //! The server program: hands its words to the commands, and says on standard error why one failed.
+
+#![tactic(auto)]
+
 use bench_commands::failure::Failure;
 use std::env;
 

@@ -1,5 +1,8 @@
 //! Runs the commands of the server program on many lists of words, in one run.
 //! What a failure says goes to standard output here, so that it can be compared too.
+
+#![tactic(auto)]
+
 use std::io;
 
 /// Files that hold a macro.

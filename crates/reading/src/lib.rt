@@ -1,5 +1,8 @@
 //! Reading a packed macro: its header, an edge by its number, and the whole file.
 //! A file is tested by `read`, and its edges are then had one by one by `edge_at`.
+
+#![tactic(auto)]
+
 ghost use Rattle.std.specs.Prelude.{◌≡◌, ◌+◌, ◌*◌, ◌<◌, length, Ok};
 ghost use Rattle.macros.specs.Faults.{bind, in_edges};
 ghost use Rattle.macros.specs.Layout.{file_length};

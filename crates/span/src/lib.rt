@@ -1,4 +1,7 @@
 //! The kind of value span: a value is two numbers, and stands for every number from the first to the second.
+
+#![tactic(auto)]
+
 mod code;
 mod combine;
 mod full;

@@ -1,4 +1,7 @@
 //! Runs macros with expected answers from an independent reference, and prints what differs and the counts of each file.
+
+#![tactic(auto)]
+
 use anyhow::anyhow;
 use lines::DataFile;
 use std::fs;

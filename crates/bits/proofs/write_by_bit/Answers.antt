@@ -7,4 +7,4 @@ pub loop-k-init : goal.loop-k-init
 loop-k-init c = rw put_none (search rules)
 
 pub loop-k-preserved : goal.loop-k-preserved
-loop-k-preserved c = put_next_bit _ _ _ _ _ _ _ (omega arith) c.loop-k.invariant c.with-bit.ensures
+loop-k-preserved c = put_next_bit _ _ _ _ _ _ _ (omega arith) c.loop-k.invariant c.with_bit.ensures
