@@ -10,6 +10,6 @@ returns g c =
     let laws = g.met.K.Kind.laws in
     let w = o.width in
     record {
-      written-reads = λ bs at v h r. ap o.read (field_put bs at w (o.write v) r (laws.write_fits h v)) ∙ laws.write_read h v;
-      read-writes = λ bs at v h r e. ap (put bs at w) (laws.read_write h _ v (field_lt bs at w) e) ∙ put_own bs at w;
+      written_reads = λ bs at v h r. ap o.read (field_put bs at w (o.write v) r (laws.write_fits h v)) ∙ laws.write_read h v;
+      read_writes = λ bs at v h r e. ap (put bs at w) (laws.read_write h _ v (field_lt bs at w) e) ∙ put_own bs at w;
     }

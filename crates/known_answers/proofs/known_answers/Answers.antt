@@ -12,18 +12,18 @@ pub returns : goal.returns
 unfolding field put read_edges put_edges put_fields int_wrap follow only_of span_of least_of_4 greatest_of_4
 returns c =
     record {
-      macro-a-reads = refl;
-      macro-b-reads = refl;
-      no-such-place = (refl, refl);
-      macro-a-is-packed = refl;
-      macro-b-is-packed = refl;
-      results-wrap = (refl, refl, refl);
+      macro_a_reads = refl;
+      macro_b_reads = refl;
+      no_such_place = (refl, refl);
+      macro_a_is_packed = refl;
+      macro_b_is_packed = refl;
+      results_wrap = (refl, refl, refl);
       remainders = (refl, refl, refl, refl, refl);
-      paths-are-driven = (refl, refl, refl);
-      exact-combines = (refl, refl, refl);
-      exact-narrows = (refl, refl, refl);
-      exact-codes = (refl, refl, refl, refl);
-      span-combines = (refl, refl, refl, refl, refl, refl, refl, refl, refl);
-      span-narrows = (refl, refl, refl, refl, refl, refl, refl, refl, refl, refl, refl, refl, refl, refl);
-      span-codes = (refl, refl, refl);
+      paths_are_driven = (refl, refl, refl);
+      exact_combines = (refl, refl, refl);
+      exact_narrows = (refl, refl, refl);
+      exact_codes = (refl, refl, refl, refl);
+      span_combines = (refl, refl, refl, refl, refl, refl, refl, refl, refl);
+      span_narrows = (refl, refl, refl, refl, refl, refl, refl, refl, refl, refl, refl, refl, refl, refl);
+      span_codes = (refl, refl, refl);
     }

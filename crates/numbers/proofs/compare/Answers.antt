@@ -6,4 +6,4 @@ pub returns : goal.returns
 returns c =
     let left = c.ranges.left in
     let right = c.ranges.right in
-    record { answer = simp to_z-of_z at c.compare-by.ensures; by-the-rules = held_compares; none-missed = compares_held }
+    record { answer = simp to_z-of_z at c.compare_by.ensures; by_the_rules = held_compares; none_missed = compares_held }

@@ -6,4 +6,4 @@ pub returns : goal.returns
 returns c =
     let left = c.ranges.left in
     let right = c.ranges.right in
-    record { answer = simp to_z-of_z at c.compute-by.ensures; by-the-rules = computed_given; no_other = given_computed }
+    record { answer = simp to_z-of_z at c.compute_by.ensures; by_the_rules = computed_given; no_other = given_computed }

@@ -11,21 +11,21 @@ pub returns : goal.returns
 returns c =
     let m = given c.args.source in
     let a : Ok (file_length (length m.edges)) ≡ pack_answer m (length c.args.out.now) = search rules in
-    let e = macro_written m c.args.out.now _ _ _ _ c.clear.ensures c.header-fields.ensures c.write-header.ensures c.write-edges.ensures in
-    record { answer = a; memory = e; promises = promised m c.args.out.now _ _ a e c.in-ok-test-macro.ensures.sized }
+    let e = macro_written m c.args.out.now _ _ _ _ c.clear.ensures c.header_fields.ensures c.write_header.ensures c.write_edges.ensures in
+    record { answer = a; memory = e; promises = promised m c.args.out.now _ _ a e c.in_ok-test_macro.ensures.sized }
 
-pub returns-in-err-test-macro : goal.returns-in-err-test-macro
-returns-in-err-test-macro c =
+pub returns-in_err-test_macro : goal.returns-in_err-test_macro
+returns-in_err-test_macro c =
     let m = given c.args.source in
-    let r = c.from-residual.result in
+    let r = c.from_residual.result in
     let a : r ≡ pack_answer m (length c.args.out.now) = search rules in
     let e : c.args.out.now ≡ pack_memory r m c.args.out.now = search rules in
-    record { answer = a; memory = e; promises = promised m c.args.out.now _ r a e (IfOk-from_err r _ c.from-residual.ensures.0) }
+    record { answer = a; memory = e; promises = promised m c.args.out.now _ r a e (IfOk-from_err r _ c.from_residual.ensures.0) }
 
-pub returns-in-err-test-room : goal.returns-in-err-test-room
-returns-in-err-test-room c =
+pub returns-in_err-test_room : goal.returns-in_err-test_room
+returns-in_err-test_room c =
     let m = given c.args.source in
-    let r = c.from-residual-in-err-test-room.result in
+    let r = c.from_residual-in_err-test_room.result in
     let a : r ≡ pack_answer m (length c.args.out.now) = search rules in
     let e : c.args.out.now ≡ pack_memory r m c.args.out.now = search rules in
-    record { answer = a; memory = e; promises = promised m c.args.out.now _ r a e (IfOk-from_err r _ c.from-residual-in-err-test-room.ensures.0) }
+    record { answer = a; memory = e; promises = promised m c.args.out.now _ r a e (IfOk-from_err r _ c.from_residual-in_err-test_room.ensures.0) }

@@ -6,18 +6,18 @@ use Rattle.macros.specs.Range.{Sized, SizedEdge}
 use Rattle.packing.proofs.Steps.{test_more, test_fault, test_all}
 use Rattle.packing.proofs.test_edges.Goals as goal
 
-pub returns-in-err-decode-edge : goal.returns-in-err-decode-edge
-returns-in-err-decode-edge c =
-    let p = err_from_is_err_and c.from-residual.result c.from-residual.ensures.1 in
+pub returns-in_err-decode_edge : goal.returns-in_err-decode_edge
+returns-in_err-decode_edge c =
+    let p = err_from_is_err_and c.from_residual.result c.from_residual.ensures.1 in
     record {
-      answer = p.1 ∙ ap (λ f. Err f) p.2 ∙ sym (c.loop-number.invariant.0 ∙ test_fault _ _ _ _ c.loop-number-test.true _ c.edge-fields.ensures.fields _ c.in-err-decode-edge.ensures);
-      sized = IfOk-from_err c.from-residual.result _ c.from-residual.ensures.0;
+      answer = p.1 ∙ ap (λ f. Err f) p.2 ∙ sym (c.loop-number.invariant.0 ∙ test_fault _ _ _ _ c.loop-number-test.true _ c.edge_fields.ensures.fields _ c.in_err-decode_edge.ensures);
+      sized = IfOk-from_err c.from_residual.result _ c.from_residual.ensures.0;
     }
 
 pub loop-number-preserved : goal.loop-number-preserved
 loop-number-preserved c = (
-  c.loop-number.invariant.0 ∙ test_more _ _ _ _ c.loop-number-test.true _ c.edge-fields.ensures.fields _ c.in-ok-decode-edge.ensures,
-  All-more SizedEdge _ _ _ c.loop-number-test.true c.loop-number.invariant.1 c.edge-fields.ensures.sized,
+  c.loop-number.invariant.0 ∙ test_more _ _ _ _ c.loop-number-test.true _ c.edge_fields.ensures.fields _ c.in_ok-decode_edge.ensures,
+  All-more SizedEdge _ _ _ c.loop-number-test.true c.loop-number.invariant.1 c.edge_fields.ensures.sized,
 )
 
 pub returns : goal.returns

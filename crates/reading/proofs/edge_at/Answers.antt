@@ -3,8 +3,8 @@ use Rattle.macros.proofs.Binds.{err_ok}
 use Rattle.reading.proofs.Edges.{headed_length, headed_edge}
 use Rattle.reading.proofs.edge_at.Goals as goal
 
-pub read-edge-requires : goal.read-edge-requires
-read-edge-requires c = (c.requires.1, headed_length c.args.bytes.now c.args.header c.requires.0)
+pub read_edge-requires : goal.read_edge-requires
+read_edge-requires c = (c.requires.1, headed_length c.args.bytes.now c.args.header c.requires.0)
 
 pub unreachable-requires : goal.unreachable-requires
 unreachable-requires c =

@@ -4,13 +4,13 @@ use Rattle.std.proofs.lemmas.List.{take_at}
 use Rattle.std.proofs.lemmas.Result.{err_from_is_err_and}
 use Rattle.bench_commands.proofs.demo.packed.Goals as goal
 
-pub returns-in-err-count : goal.returns-in-err-count
-returns-in-err-count c =
-    let p = err_from_is_err_and c.from-residual-in-err-count.result c.from-residual-in-err-count.ensures.1 in
+pub returns-in_err-count : goal.returns-in_err-count
+returns-in_err-count c =
+    let p = err_from_is_err_and c.from_residual-in_err-count.result c.from_residual-in_err-count.ensures.1 in
     rw p.1 tt
 
 pub returns : goal.returns
 returns c =
     ap read_macro c.truncate.ensures.items
-    ∙ ap (λ bs. read_macro (take c.in-ok-count.count bs)) (take_at c.pack.new.out _ c.in-ok-bytes.bytes.len (omega arith))
-    ∙ c.in-ok-count.ensures.promises.reads_back
+    ∙ ap (λ bs. read_macro (take c.in_ok-count.count bs)) (take_at c.pack.new.out _ c.in_ok-bytes.bytes.len (omega arith))
+    ∙ c.in_ok-count.ensures.promises.reads_back

@@ -12,6 +12,6 @@ returns-in-show c = two_words c.args.words.now _ _ (search rules) c.in-show.is-s
 pub returns-in-run : goal.returns-in-run
 returns-in-run c =
     elim c.in-run·.branch [
-      | then-words-lt3+in-run· w ↦ run_named c.run-command.result c.args.words.now _ (search rules) (search rules) c.run-command.ensures
-      | else-words-lt3+in-run· w ↦ run_named c.run-command.result c.args.words.now _ (search rules) (search rules) c.run-command.ensures
+      | then-words-lt3+in-run· w ↦ run_named c.run_command.result c.args.words.now _ (search rules) (search rules) c.run_command.ensures
+      | else-words-lt3+in-run· w ↦ run_named c.run_command.result c.args.words.now _ (search rules) (search rules) c.run_command.ensures
     ]

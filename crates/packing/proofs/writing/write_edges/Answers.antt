@@ -9,7 +9,7 @@ loop-number-preserved c =
     let i = c.loop-number.number in
     c.loop-number.invariant ∙ put_more _ _ _ _ c.loop-number-test.true
     ∙ sym (ap (λ bs. put_edges bs (i + 1) (drop (i + 1) c.args.edges.now))
-    (c.write-edge.ensures ∙ ap (λ f. put_fields c.loop-number.bytes (edge_bit i) (edge_list f)) c.edge-fields.ensures.fields))
+    (c.write_edge.ensures ∙ ap (λ f. put_fields c.loop-number.bytes (edge_bit i) (edge_list f)) c.edge_fields.ensures.fields))
 
 pub returns : goal.returns
 returns c = sym (c.loop-number.invariant ∙ put_all _ _ _ c.loop-number-test.false)

@@ -7,8 +7,8 @@ returns c =
     let m = given c.args.source in
     let rs = c.args.readings.now in
     record {
-      answer = c.drive-by.ensures.answer;
-      numbers = c.drive-by.ensures.numbers;
-      sound = drive_sound m rs c.numbers-fit-2.ensures c.args.path.now c.args.numbers.now c.numbers-fit.ensures;
+      answer = c.drive_by.ensures.answer;
+      numbers = c.drive_by.ensures.numbers;
+      sound = drive_sound m rs c.numbers_fit-2.ensures c.args.path.now c.args.numbers.now c.numbers_fit.ensures;
       complete = drive_complete m rs c.args.path.now c.args.numbers.now;
     }

@@ -9,7 +9,7 @@ returns-in-Err c =
     let e = c.loop-step.invariant ∙ path_halts _ _ _ _ c.loop-step-test.true _ c.in-Err.halt h in
     record {
       answer = sym (ap (λ (f : Followed). f.answer) e);
-      numbers = c.take-edge.ensures.numbers ∙ ap (numbers_taken c.loop-step.numbers) h ∙ sym (ap (λ (f : Followed). f.numbers) e);
+      numbers = c.take_edge.ensures.numbers ∙ ap (numbers_taken c.loop-step.numbers) h ∙ sym (ap (λ (f : Followed). f.numbers) e);
     }
 
 pub loop-step-preserved : goal.loop-step-preserved
@@ -17,7 +17,7 @@ loop-step-preserved c =
     let xs = c.loop-step.numbers in
     let a = advance c.loop-step.position xs in
     let r = taken c.args.edges.now c.args.readings.now (get_or c.args.path.now c.loop-step.step 0) a in
-    let on = taken_ok xs c.in-Ok.next r c.in-Ok.ensures.answer ∙ ap (λ ys. Ok (advance c.in-Ok.next ys)) (sym c.take-edge.ensures.numbers) in
+    let on = taken_ok xs c.in-Ok.next r c.in-Ok.ensures.answer ∙ ap (λ ys. Ok (advance c.in-Ok.next ys)) (sym c.take_edge.ensures.numbers) in
     c.loop-step.invariant ∙ path_more _ _ _ _ c.loop-step-test.true a _ on
 
 pub returns : goal.returns

@@ -10,7 +10,7 @@ pub loop-number-preserved : goal.loop-number-preserved
 loop-number-preserved c =
     let z = get_or c.args.numbers.now c.loop-number.number-index (pos 0) in
     let same : to_z w32 (of_z w32 z) ≡ z = omega (arith, ints) in
-    All-more Number c.args.numbers.now c.loop-number.number-index (pos 0) c.loop-number-test.true c.loop-number.invariant (subst Number same c.number-fits.ensures)
+    All-more Number c.args.numbers.now c.loop-number.number-index (pos 0) c.loop-number-test.true c.loop-number.invariant (subst Number same c.number_fits.ensures)
 
 pub returns : goal.returns
 returns c = subst (All Number) (take_all _ _ c.loop-number-test.false) c.loop-number.invariant

@@ -4,8 +4,8 @@ use Rattle.runs.proofs.steps.step.Goals as goal
 pub returns : goal.returns
 returns c =
     record {
-      answer = c.step-by.ensures.answer;
-      numbers = c.step-by.ensures.numbers;
-      sound = step_sound c.args.numbers.now c.args.operation c.args.reading c.reading-fits.ensures;
+      answer = c.step_by.ensures.answer;
+      numbers = c.step_by.ensures.numbers;
+      sound = step_sound c.args.numbers.now c.args.operation c.args.reading c.reading_fits.ensures;
       complete = step_complete c.args.numbers.now c.args.operation;
     }

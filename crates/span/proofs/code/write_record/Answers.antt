@@ -13,6 +13,6 @@ returns c =
     let l : to_z w32 (of_z w32 low) ≡ low = omega (arith, ints) in
     let h : to_z w32 (of_z w32 high) ≡ high = omega (arith, ints) in
     let below : of_z w32 high < 4294967296 = omega (arith, ints) in
-    c.write-field-2.ensures
-    ∙ ap₂ (λ m n. put m (at + 32) 32 n) (c.write-field.ensures ∙ ap (put bs at 32) (c.cast-unsigned.ensures ∙ ap (of_z w32) l)) (c.cast-unsigned-2.ensures ∙ ap (of_z w32) h)
+    c.write_field-2.ensures
+    ∙ ap₂ (λ m n. put m (at + 32) 32 n) (c.write_field.ensures ∙ ap (put bs at 32) (c.cast_unsigned.ensures ∙ ap (of_z w32) l)) (c.cast_unsigned-2.ensures ∙ ap (of_z w32) h)
     ∙ put_halves bs at (of_z w32 low) (of_z w32 high) below
