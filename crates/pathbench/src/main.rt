@@ -4,6 +4,8 @@
 
 use bench_commands::failure::Failure;
 use std::env;
+use std::io;
+use std::process::ExitCode;
 
 fn start(rt: &HostRuntime) -> Result<(), Failure> {
     let all: Vec<String> = env::args(rt)?.skip(1).collect(rt.alloc())?;
@@ -15,10 +17,12 @@ fn start(rt: &HostRuntime) -> Result<(), Failure> {
 }
 
 /// A failure ends the program with status 1.
-fn main(rt: HostRuntime) -> Result<(), Failure> {
-    let answer = start(&rt);
-    if let Err(failure) = &answer {
-        eprintln!(rt; "{failure}")?;
+fn main(rt: HostRuntime) -> io::Result<ExitCode> {
+    match start(&rt) {
+        Ok(()) => Ok(ExitCode::SUCCESS),
+        Err(failure) => {
+            eprintln!(rt; "{failure}")?;
+            Ok(ExitCode::FAILURE)
+        }
     }
-    answer
 }
