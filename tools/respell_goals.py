@@ -34,6 +34,7 @@ def main():
             if "-" not in t:
                 return t
             t = re.sub(r"(?<![A-Za-z])in-(ok|err)-", r"in_\1-", t)
+            t = re.sub(r"^overflow-(add|sub|mul|shl|shr|cast|step)-", r"overflow_\1-", t)
             for w in words:
                 t = re.sub(rf"(?<![A-Za-z0-9_]){re.escape(w.replace('_', '-'))}(?![A-Za-z0-9_])", w, t)
             return t

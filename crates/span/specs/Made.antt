@@ -3,8 +3,8 @@ use Rattle.std.specs.Prelude.{◌≡◌, ℕ, ◌<◌, Bool, true, false, T, ℤ
 use Rattle.std.proofs.Common.{sym, ap, subst, arith, lt→ltb, ltb→lt}
 use mathlib.Core.HLevel.{is_prop→PathP}
 use Rattle.std.proofs.Math.Bridge.{le_prop}
-use denote.Struct.Props.{≤ℤ_prop}
-use Rattle.std.specs.Int.Signed.{le_z_yes, mag}
+use Rattle.std.proofs.Math.Dec.{T_prop}
+use Rattle.std.specs.Int.Signed.{le_z, le_z_yes, mag}
 use Rattle.std.specs.Int.{int_wrap, w32}
 use Rattle.std.proofs.lemmas.Int.{ints, int_wrap_fits, SFits-int_wrap}
 use Rattle.macros.specs.Number.{Number}
@@ -12,13 +12,17 @@ use Rattle.kinds.specs.Kind.{Stands}
 use Rattle.span.specs.declared.value.Span.{Span}
 use Rattle.span.specs.Span.{Between, is_number, or_whole, single_span, span_if, span_of, span_ops, whole_range}
 
+-- an order of two numbers has one proof
+ordered_once : {a b : ℤ} (o p : a ≤ℤ b) → o ≡ p
+ordered_once {a} {b} o p = λ i. record { le = T_prop (le_z a b) o.le p.le i }
+
 -- two spans with the same ends are one
 pub same_ends : (s t : Span) → s.low ≡ t.low → s.high ≡ t.high → s ≡ t
 same_ends s t p q =
     λ i. record {
       low = p i;
       high = q i;
-      order = is_prop→PathP (λ j. p j ≤ℤ q j) (λ j. ≤ℤ_prop) s.order t.order i;
+      order = is_prop→PathP (λ j. p j ≤ℤ q j) (λ j. ordered_once) s.order t.order i;
       low_fits = is_prop→PathP (λ j. mag (p j) < 2147483648) (λ j. le_prop) s.low_fits t.low_fits i;
       high_fits = is_prop→PathP (λ j. mag (q j) < 2147483648) (λ j. le_prop) s.high_fits t.high_fits i;
     }

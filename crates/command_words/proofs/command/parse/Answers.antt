@@ -1,7 +1,7 @@
 use Rattle.std.proofs.Common.{rules}
 use Rattle.command_words.proofs.Words.{one_word, run_named, two_words}
 use Rattle.command_words.proofs.command.parse.Goals as goal
-use Rattle.command_words.proofs.command.parse.Goals.{then-words-lt3+in-run·, else-words-lt3+in-run·}
+use Rattle.command_words.proofs.command.parse.Goals.{then-words-lt3+in-run-1, else-words-lt3+in-run-1}
 
 pub returns-in-demo : goal.returns-in-demo
 returns-in-demo c = one_word c.args.words.now _ _ (search rules) c.in-demo.is-demo
@@ -11,7 +11,7 @@ returns-in-show c = two_words c.args.words.now _ _ (search rules) c.in-show.is-s
 
 pub returns-in-run : goal.returns-in-run
 returns-in-run c =
-    elim c.in-run·.branch [
-      | then-words-lt3+in-run· w ↦ run_named c.run_command.result c.args.words.now _ (search rules) (search rules) c.run_command.ensures
-      | else-words-lt3+in-run· w ↦ run_named c.run_command.result c.args.words.now _ (search rules) (search rules) c.run_command.ensures
+    elim c.in-run-1.branch [
+      | then-words-lt3+in-run-1 w ↦ run_named c.run_command.result c.args.words.now _ (search rules) (search rules) c.run_command.ensures
+      | else-words-lt3+in-run-1 w ↦ run_named c.run_command.result c.args.words.now _ (search rules) (search rules) c.run_command.ensures
     ]

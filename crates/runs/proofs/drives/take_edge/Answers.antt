@@ -14,7 +14,7 @@ returns-in_err-step c =
       numbers = c.step.ensures.numbers ∙ ap (numbers_after xs) (tested_err _ _ c.in_err-step.ensures.answer) ∙ sym (ap (numbers_taken xs) e);
     }
 
-pub overflow-add-result : goal.overflow-add-result
-overflow-add-result c =
+pub overflow_add-result : goal.overflow_add-result
+overflow_add-result c =
     let lt = readings_fit c.in_ok-edge.edge.operation c.args.numbers.now c.args.readings.now c.args.position.taken _ c.next_reading-reading.ensures c.in_ok-step.ensures.answer (omega arith) (omega arith) in
     omega (arith, lt, c.readings_of.ensures)

@@ -7,4 +7,4 @@ use Rattle.command_words.proofs.misuse.MisuseDisplay.fmt.Goals as goal
 pub returns-clause-writes : goal.returns-clause-writes
 returns-clause-writes g c plain ok =
     subst (λ name. HasWritten g.W.Write.write_str_gives c.args.f.now (name & codes "\n" & usage_text) c.write.new.self) c.name-name.ensures
-    (c.write.ensures.shows plain ok)
+    (c.write.ensures.writes plain ok)
