@@ -3,9 +3,8 @@
 #![tactic(auto)]
 
 use bench_commands::failure::Failure;
-use std::env;
-use std::io;
 use std::process::ExitCode;
+use std::{env, io};
 
 fn start(rt: &HostRuntime) -> Result<(), Failure> {
     let all: Vec<String> = env::args(rt)?.skip(1).collect(rt.alloc())?;
