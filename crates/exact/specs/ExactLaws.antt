@@ -9,7 +9,7 @@ use Rattle.macros.specs.declared.parts.Arithmetic.TheVariants.{Add, Subtract, Mu
 use Rattle.macros.specs.declared.parts.Comparison.{Comparison}
 use Rattle.macros.specs.declared.parts.Comparison.TheVariants.{Equal, NotEqual, Less, AtMost, Greater, AtLeast}
 use Rattle.numbers.specs.Arithmetic.{computed, holds, same_int}
-use Rattle.kinds.specs.Kind.{Laws, Stands}
+use Rattle.kinds.specs.Kind.{Laws, Named, Stands}
 use Rattle.exact.specs.declared.value.Number.{Number}
 use Rattle.exact.specs.declared.value.Exact.{Exact}
 use Rattle.exact.specs.declared.value.Exact.TheVariants.{Only, Unknown}
@@ -119,3 +119,6 @@ exact_laws = record {
   write_read = λ _. written_read;
   read_write = λ _ c v _. read_written c v;
 }
+
+pub exact_named : Named exact_ops
+exact_named = record { some_number = omega arith; digits = (omega arith, tt); short = λ _. omega arith }

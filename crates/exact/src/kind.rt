@@ -3,8 +3,7 @@ ghost use Rattle.std.specs.Prelude.{◌≡◌, ◌+◌, ◌*◌, ◌/◌, ◌%�
 ghost use Rattle.bits.specs.Field.{field, put};
 ghost use Rattle.exact.specs.Exact.{decoded, exact_ops, only_of, only_result};
 ghost use Rattle.numbers.specs.Arithmetic.{computed};
-ghost use Rattle.exact.specs.ExactLaws.{exact_laws};
-ghost use Rattle.std.proofs.Common.{rules};
+ghost use Rattle.exact.specs.ExactLaws.{exact_laws, exact_named};
 
 use super::value::{Exact, ExactRecord, Number};
 use bits::{read_field, write_field};
@@ -19,7 +18,7 @@ impl Kind for Exact {
 
     ghost laws = { exact_laws };
 
-    ghost named = { Prim.search rules };
+    ghost named = { exact_named };
 
     fn unknown() -> Exact {
         Exact::Unknown

@@ -11,7 +11,7 @@ use Rattle.macros.specs.declared.parts.Comparison.{Comparison}
 use Rattle.macros.specs.declared.parts.Comparison.TheVariants.{Equal, NotEqual, Less, AtMost, Greater, AtLeast}
 use Rattle.macros.specs.Number.{Number}
 use Rattle.numbers.specs.Arithmetic.{computed, holds, same_int}
-use Rattle.kinds.specs.Kind.{Laws, Stands}
+use Rattle.kinds.specs.Kind.{Laws, Named, Stands}
 use Rattle.span.specs.declared.value.Span.{Span}
 use Rattle.span.specs.Span.{Between, code_of, combined, decoded, greatest_of_4, is_single, is_within, is_zero, least_of_4, narrowed, single_span, span_of, span_ops, whole_range, without}
 use Rattle.span.specs.Codes.{first_half, second_half}
@@ -150,3 +150,6 @@ span_laws = record {
   write_read = λ _ s. code_decoded s;
   read_write = λ _ c s f e. decoded_code c s f e;
 }
+
+pub span_named : Named span_ops
+span_named = record { some_number = omega arith; digits = (omega arith, tt); short = λ _. omega arith }

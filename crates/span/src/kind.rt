@@ -1,8 +1,7 @@
 //! The spans as a kind of value.
 ghost use Rattle.kinds.specs.Kind.{Simple};
 ghost use Rattle.span.specs.Span.{span_ops};
-ghost use Rattle.span.specs.Laws.{span_laws};
-ghost use Rattle.std.proofs.Common.{rules, arith};
+ghost use Rattle.span.specs.Laws.{span_laws, span_named};
 
 use super::code::{read_record, write_record};
 use super::combine::{difference, product, remainder, sum};
@@ -18,7 +17,7 @@ impl Kind for Span {
 
     ghost laws = { span_laws };
 
-    ghost named = { first_of (Prim.search rules, Prim.grind (arith, Self.row.coded.inj)) };
+    ghost named = { span_named };
 
     fn unknown() -> Span {
         Span::whole()
