@@ -31,6 +31,8 @@ BY_HAND = {
 DEFINED = re.compile(r"^[ \t]*(?:abbrev |unfoldable )?(?:pub )?(record |data |inductive )?([A-Za-z_][A-Za-z0-9_'\u2080-\u2089-]*)(?=[ \t]*[:({])([^\n]*)", re.M)
 ALIAS = re.compile(r"(?<= as )([A-Za-z_][A-Za-z0-9_'-]*)")
 MADE = re.compile(r":\s*goal\.")
+# the kit's script keeps std's older, recursive word under the name of its newer one, which the gate refuses
+OLDER_ALL = "{AllByRecursion as All"
 TOKEN = re.compile(r"[^\s(){}\[\].,;:\"`@\u00ab\u00bb\u03bb]+")
 
 
@@ -103,6 +105,9 @@ def main():
             new = turn(text)
         else:
             new = "".join(turn(piece) if code else piece for piece, code in code_parts(text))
+        if OLDER_ALL in new:
+            new = TOKEN.sub(lambda m: "AllByRecursion" if m.group() == "All" else m.group(), new)
+            new = new.replace("AllByRecursion as AllByRecursion", "AllByRecursion")
         if new != text:
             open(path, "w", encoding="utf-8").write(new)
     for n in sorted(turned):

@@ -2,7 +2,7 @@
 use Rattle.std.proofs.Common.{◌≡◌, ℕ, ◌+◌, ◌≤◌, List, [], ◌∷◌, ◌++◌, length, take, drop, IfOk, Ok, Err, Result, sym, refl, ap, ◌∙◌, subst, arith}
 use Rattle.std.proofs.lemmas.List.{take_at}
 use Rattle.std.proofs.lemmas.Bool.{le-ltb}
-use Rattle.std.specs.List.{AllByRecursion as All}
+use Rattle.std.specs.List.{AllByRecursion}
 use Rattle.macros.specs.declared.parts.Edge.{Edge}
 use Rattle.macros.specs.declared.parts.Header.{Header}
 use Rattle.macros.specs.Faults.{bind, in_edge, in_edges, in_header}
@@ -25,14 +25,14 @@ use Rattle.packing.proofs.RoundTrip.{packed_reads, read_in_range, read_packed}
 
 -- ---- the tests take exactly what is in range
 
-edges_in : (h : Header) (i : ℕ) (xs : List Edge) → All (EdgeInRange h.variables h.places) xs → test_edges h i xs ≡ Ok tt
+edges_in : (h : Header) (i : ℕ) (xs : List Edge) → AllByRecursion (EdgeInRange h.variables h.places) xs → test_edges h i xs ≡ Ok tt
 unfolding test_edges
 edges_in h i [] all = refl
 edges_in h i (x ∷ xs) all =
     ap (λ r. bind in_edge r (λ _. test_edges h (i + 1) xs)) (edge_in h.variables h.places (edge_bit i) x all.0)
     ∙ edges_in h (i + 1) xs all.1
 
-edges_out : (h : Header) (i : ℕ) (xs : List Edge) → Sized xs → test_edges h i xs ≡ Ok tt → All (EdgeInRange h.variables h.places) xs
+edges_out : (h : Header) (i : ℕ) (xs : List Edge) → Sized xs → test_edges h i xs ≡ Ok tt → AllByRecursion (EdgeInRange h.variables h.places) xs
 unfolding test_edges
 edges_out h i [] sized e = tt
 edges_out h i (x ∷ xs) sized e =
@@ -61,7 +61,7 @@ macro_out m h sized e =
       few_places = omega (arith, r.few_places);
       guarded = omega (arith, r.guarded);
       few_edges = omega (arith, r.few_edges);
-      edges = subst (λ (x : Header). All (EdgeInRange x.variables x.places) m.edges) (sym d.0) (edges_out a.0 0 m.edges sized b.1);
+      edges = subst (λ (x : Header). AllByRecursion (EdgeInRange x.variables x.places) m.edges) (sym d.0) (edges_out a.0 0 m.edges sized b.1);
     }
 
 -- ---- the answer

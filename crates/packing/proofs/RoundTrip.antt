@@ -3,7 +3,7 @@ use Rattle.std.proofs.Common.{◌≡◌, ℕ, zero, suc, ◌+◌, ◌*◌, ◌^�
 use mir.Facts.{Fits-of_z}
 use Rattle.std.proofs.lemmas.List.{length-replicate}
 use Rattle.std.proofs.lemmas.Bool.{eq-eqb, le-ltb}
-use Rattle.std.specs.List.{AllByRecursion as All}
+use Rattle.std.specs.List.{AllByRecursion}
 use Rattle.bits.specs.Field.{Bytes, field}
 use Rattle.bits.proofs.Appends.{bytes_same}
 use Rattle.bits.proofs.FieldLaws.{field_lt, field_none, field_split}
@@ -66,7 +66,7 @@ header_narrow m r =
 -- ---- what is packed reads back
 
 module _ (h : Header) (few : h.variables ≤ 15) (small : h.places ≤ 255) where
-  edges_read : (bs : List ℕ) (i : ℕ) (xs : List Edge) → All (EdgeInRange h.variables h.places) xs → edge_bit (i + length xs) ≤ 8 * length bs → read_edges (put_edges bs i xs) h i (length xs) ≡ Ok xs
+  edges_read : (bs : List ℕ) (i : ℕ) (xs : List Edge) → AllByRecursion (EdgeInRange h.variables h.places) xs → edge_bit (i + length xs) ≤ 8 * length bs → read_edges (put_edges bs i xs) h i (length xs) ≡ Ok xs
   unfolding put_edges read_edges
   edges_read bs i [] all room = refl
   edges_read bs i (x ∷ xs) all room =
@@ -138,13 +138,13 @@ edge_there bs h i x e =
     let b = edge_back h.variables h.places (edge_bit i) (edge_fields_at bs (edge_bit i)) x (fields_narrow bs (edge_bit i)) (edge_decoded bs h i x e) in
     (edge_held bs (edge_bit i) (fields_of x) (sym b.0), b.1)
 
-edges_in_range : (bs : List ℕ) (h : Header) (i k : ℕ) (xs : List Edge) → read_edges bs h i k ≡ Ok xs → All (EdgeInRange h.variables h.places) xs
+edges_in_range : (bs : List ℕ) (h : Header) (i k : ℕ) (xs : List Edge) → read_edges bs h i k ≡ Ok xs → AllByRecursion (EdgeInRange h.variables h.places) xs
 unfolding read_edges
-edges_in_range bs h i zero xs e = subst (λ ys. All (EdgeInRange h.variables h.places) ys) (ok_same e) tt
+edges_in_range bs h i zero xs e = subst (λ ys. AllByRecursion (EdgeInRange h.variables h.places) ys) (ok_same e) tt
 edges_in_range bs h i (suc k) xs e =
     let a = bind_ok same (read_edge bs h i) _ xs e in
     let b = bind_ok same (read_edges bs h (i + 1) k) _ xs a.2 in
-    subst (λ ys. All (EdgeInRange h.variables h.places) ys) (ok_same b.2)
+    subst (λ ys. AllByRecursion (EdgeInRange h.variables h.places) ys) (ok_same b.2)
     ((edge_there bs h i a.0 a.1).1, edges_in_range bs h (i + 1) k b.0 b.1)
 
 -- a macro that is read is in range

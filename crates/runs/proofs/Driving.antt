@@ -3,7 +3,7 @@ use Rattle.std.proofs.Common.{◌≡◌, ℕ, zero, suc, ◌+◌, ◌-◌, ◌�
 use Rattle.std.proofs.lemmas.List.{drop_all, drop_more}
 use Rattle.std.proofs.lemmas.Option.{slice_get-get_or}
 use Rattle.std.proofs.lemmas.Bool.{cond-true, cond-false, eq-eqb, eqb-true, le-ltb, ltb-false}
-use Rattle.std.specs.List.{AllByRecursion as All, slice_get}
+use Rattle.std.specs.List.{AllByRecursion, slice_get}
 use Rattle.macros.specs.declared.parts.Edge.{Edge}
 use Rattle.macros.specs.declared.parts.Operation.{Operation}
 use Rattle.macros.specs.declared.parts.Operation.TheVariants.{Set, Compute, Read, Test}
@@ -26,7 +26,7 @@ use Rattle.runs.proofs.Takes.{beyond, nth_within, turn}
 abbrev state_of : Advance → State
 state_of a = state a.position.place a.numbers
 
-reading_number : (rs : List ℤ) (k : ℕ) → All Number rs → Reading (slice_get rs k)
+reading_number : (rs : List ℤ) (k : ℕ) → AllByRecursion Number rs → Reading (slice_get rs k)
 reading_number [] k f = tt
 reading_number (z ∷ rs) zero f = f.0
 reading_number (z ∷ rs) (suc k) f = reading_number rs k f.1
@@ -50,7 +50,7 @@ edge_or_is : (n : ℕ) (o : Option Edge) (e : Edge) → edge_or n o ≡ Ok e →
 edge_or_is n None e h = err_ok h
 edge_or_is n (Some x) e h = ap Some (ok_same h)
 
-module _ (m : Macro) (rs : List ℤ) (numbers : All Number rs) where
+module _ (m : Macro) (rs : List ℤ) (numbers : AllByRecursion Number rs) where
   -- an edge that is taken makes its step
   pub taken_takes : (j : ℕ) (a b : Advance) → taken m.edges rs j a ≡ Ok b → (now : List ℤ) × (drop a.position.taken rs ≡ now ++ drop b.position.taken rs) × Takes m j (state_of a) now (state_of b)
   taken_takes j a b h =
@@ -89,7 +89,7 @@ module _ (m : Macro) (rs : List ℤ) (numbers : All Number rs) where
         let end = state q.place (follow m.edges rs (i + 1) path b).numbers in
         subst (λ w. Follows m (state_of a) (j ∷ path) w end) (sym t.1) (takes_on j path t.0 (drop b.position.taken rs) (state_of a) (state_of b) end t.2 (on b g))
 
-  pub drive_sound : (path : List ℕ) (xs : List ℤ) → All Number xs → DriveSound m path xs rs
+  pub drive_sound : (path : List ℕ) (xs : List ℤ) → AllByRecursion Number xs → DriveSound m path xs rs
   drive_sound path xs fits p h =
       let f = follow m.edges rs 0 path (begin xs) in
       let right = cond_ok (eqb (length xs) m.variables) (bind same f.answer (place_at_end rs)) _ p h in

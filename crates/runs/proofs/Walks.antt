@@ -3,7 +3,7 @@ use Rattle.std.proofs.Common.{◌≡◌, ℕ, zero, suc, Bool, true, false, cond
 use lib.ListN.{length-replicate}
 use lib.Signed.{mag_rem, rem_z}
 use Rattle.std.proofs.lemmas.Int.{SFits-int_wrap}
-use Rattle.std.specs.List.{AllByRecursion as All, slice_get}
+use Rattle.std.specs.List.{AllByRecursion, slice_get}
 use Rattle.std.specs.Int.{int_wrap}
 use Rattle.macros.specs.declared.parts.Arithmetic.{Arithmetic}
 use Rattle.macros.specs.declared.parts.Arithmetic.TheVariants.{Add, Subtract, Multiply, Remainder}
@@ -49,7 +49,7 @@ runs_driven m t (goes s u r st) = driven_more m s u (runs_driven m s r) st
 
 -- ---- the start
 
-zeros : (n : ℕ) → All Number (replicate n (pos 0))
+zeros : (n : ℕ) → AllByRecursion Number (replicate n (pos 0))
 zeros zero = tt
 zeros (suc n) = (omega arith, zeros n)
 
@@ -58,17 +58,17 @@ start_reached m = record { numbers = replicate m.variables (pos 0); run = starts
 
 -- ---- the numbers of a run
 
-get_or_number : (xs : List ℤ) (k : ℕ) → All Number xs → Number (get_or xs k (pos 0))
+get_or_number : (xs : List ℤ) (k : ℕ) → AllByRecursion Number xs → Number (get_or xs k (pos 0))
 get_or_number [] k f = omega arith
 get_or_number (x ∷ xs) zero f = f.0
 get_or_number (x ∷ xs) (suc k) f = get_or_number xs k f.1
 
-set_numbers : (xs : List ℤ) (k : ℕ) (z : ℤ) → Number z → All Number xs → All Number (set xs k z)
+set_numbers : (xs : List ℤ) (k : ℕ) (z : ℤ) → Number z → AllByRecursion Number xs → AllByRecursion Number (set xs k z)
 set_numbers [] k z n f = f
 set_numbers (x ∷ xs) zero z n f = (n, f.1)
 set_numbers (x ∷ xs) (suc k) z n f = (f.0, set_numbers xs k z n f.1)
 
-operand_is_number : (n : ℕ) (xs : List ℤ) (a : Operand) → OperandInRange n a → All Number xs → Number (operand_number xs a)
+operand_is_number : (n : ℕ) (xs : List ℤ) (a : Operand) → OperandInRange n a → AllByRecursion Number xs → Number (operand_number xs a)
 operand_is_number n xs (Constant k) r f = r
 operand_is_number n xs (Variable v) r f = get_or_number xs v f
 
@@ -85,7 +85,7 @@ computed_number Remainder x y z n e = go (same_int y (pos 0)) e where
   go false h = let k : rem_z x y ≡ z = cc in subst Number k (omega (arith, mag_rem x y))
 
 module _ (m : Macro) (here : InRange m) where
-  edge_in : (es : List Edge) (j : ℕ) (e : Edge) → All (EdgeInRange m.variables m.places) es → slice_get es j ≡ Some e → EdgeInRange m.variables m.places e
+  edge_in : (es : List Edge) (j : ℕ) (e : Edge) → AllByRecursion (EdgeInRange m.variables m.places) es → slice_get es j ≡ Some e → EdgeInRange m.variables m.places e
   edge_in [] j e f h = let q : ◌≡◌ {A = ℕ} 0 1 = cc in absurd (omega arith)
   edge_in (x ∷ es) zero e f h = let k : x ≡ e = cc in subst (EdgeInRange m.variables m.places) k f.0
   edge_in (x ∷ es) (suc j) e f h = edge_in es j e f.1 h

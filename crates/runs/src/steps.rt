@@ -5,7 +5,7 @@ ghost use Rattle.numbers.specs.Arithmetic.{computed};
 ghost use Rattle.runs.specs.Promises.{Reading, StepComplete, StepSound};
 ghost use Rattle.runs.specs.Runs.{operand_number};
 ghost use Rattle.runs.specs.Steps.{numbers_after, put_result, readings_of, stepped};
-ghost use Rattle.std.specs.List.{AllByRecursion as All};
+ghost use Rattle.std.specs.List.{AllByRecursion};
 ghost use Rattle.std.specs.Prelude.{◌≡◌, slice_set};
 
 use crate::halts::NoStep;
@@ -27,7 +27,7 @@ fn reading_fits(reading: Option<i32>)
 
 /// States that each number of a slice is one of 32 bits; compiled to nothing.
 pub(crate) fn numbers_fit(numbers: &[i32])
-    ensures { All Number numbers.now }
+    ensures { AllByRecursion Number numbers.now }
 {
     for number in numbers.iter() {
         number_fits(*number);
