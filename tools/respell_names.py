@@ -1,6 +1,6 @@
 #!/usr/bin/env python3
-"""Spells the names of this repository's own definitions, lemmas and record fields as today's Rattle spells its own:
-types and facts in upper camel case, all else in snake case.
+"""Spells the names of this repository's own definitions, lemmas and record fields in one style: types and facts in
+upper camel case, all else in snake case.
 
 usage: python3 tools/respell_names.py [FOLDER]     FOLDER: a checkout (this one, if left out)
 

@@ -1,4 +1,4 @@
-//! Runs the commands of the server program on many lists of words, in one run.
+//! Shows a macro, and then runs the command `run` on many lists of words, in one run.
 //! What a failure says goes to standard output here, so that it can be compared too.
 
 #![tactic(auto)]
@@ -67,7 +67,18 @@ fn run_all(rt: &HostRuntime, lines: &[&str]) -> io::Result<()> {
     Ok(())
 }
 
+/// The macro that most paths are driven through.
+fn show_loop(rt: &HostRuntime) -> io::Result<()> {
+    let words = ["show", "loop.bin"];
+    print_words(rt, &words)?;
+    match bench_commands::run(rt, &words) {
+        Ok(()) => rt.println("done"),
+        Err(failure) => rt.println(failure),
+    }
+}
+
 fn cases(rt: &HostRuntime) -> io::Result<()> {
+    show_loop(rt)?;
     run_all(rt, &DRIVEN)?;
     case(rt, &["run", "a.bin", "--path", "", "--start", "7"])?;
     run_all(rt, &HALTED)?;

@@ -1,4 +1,4 @@
-//! The command `run` of the server program, over a list of words.
+//! The command `run`, which drives a path through a macro, over a list of words. The program does not offer it yet.
 
 #![tactic(auto)]
 
