@@ -4,6 +4,6 @@
 root=$(cd "$(dirname "$0")" && pwd -P)
 program=$root/crates/pathbench/out/pathbench
 [ -x "$program" ] || (cd "$root/crates/pathbench" && rt run -- demo) >&2 || exit 2
-# No proof says how much stack is enough, so it gets as much as the system allows, up to 64 MiB.
+# No proof says how much stack is enough. It gets 64 MiB where the system allows that, and else what it has.
 ulimit -s 65536 2>/dev/null
 exec "$program" "$@"
