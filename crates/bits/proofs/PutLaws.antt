@@ -1,6 +1,6 @@
 -- What is written: a write's parts, what is read after it, and the writes of bytes.
 use Rattle.std.proofs.Common.{◌≡◌, ℕ, zero, suc, ◌+◌, ◌-◌, ◌*◌, ◌/◌, ◌%◌, ◌^◌, ◌<◌, ◌≤◌, ◌⊎◌, List, length, get_or, set, sym, refl, ap, ◌∙◌, ap₂, inl, inr, ⊎_elim, add-zero, add_assoc, add-suc, mul_assoc, pow-suc, add-one, arith, length-set, get_or-set_same, set-set}
-use lib.Seq.{set-get_or}
+use Rattle.std.proofs.lemmas.List.{set-get_or}
 use Rattle.std.proofs.lemmas.Nat.{mod_below, mod_low, mod-pow-add, pow_pos, shr_high, shr-shr, shr_split}
 use Rattle.bits.specs.Field.{bit_at, field, put, put_bit, with_bit}
 use Rattle.bits.proofs.BitLaws.{bit_same, bit_other, bit_own, with_bit_next}
