@@ -1,6 +1,8 @@
 -- Lists that go on, and lists of bytes.
-use Rattle.std.proofs.Common.{◌≡◌, ℕ, zero, suc, ◌+◌, ◌-◌, ◌*◌, ◌/◌, ◌%◌, ◌^◌, ◌<◌, ◌≤◌, List, [], ◌∷◌, ◌++◌, length, get_or, replicate, sym, refl, ap, ◌∙◌, ap₂, arith}
-use Rattle.std.proofs.ByRecursion.{All-set}
+use Rattle.std.proofs.Common.{◌≡◌, ℕ, zero, suc, ◌+◌, ◌-◌, ◌*◌, ◌/◌, ◌%◌, ◌^◌, ◌<◌, ◌≤◌, List, ◌++◌, length, get_or, replicate, sym, refl, ap, ◌∙◌, ap₂, inl, inr, arith}
+use Rattle.std.proofs.Math.ListN.{get_or-eq_default}
+use Rattle.std.proofs.lemmas.Bool.{cases_lt}
+use Rattle.std.proofs.lemmas.List.Elements.{All-replicate, All-set}
 use Rattle.std.proofs.lemmas.List.{ext_get_or, get_or_append_left, set-append_left}
 use Rattle.bits.specs.Field.{Bytes, field, put}
 use Rattle.bits.proofs.BitLaws.{with_bit_lt}
@@ -25,9 +27,11 @@ put_append bs cs at (suc w) v h =
 
 -- what is read of a list of bytes is a byte, also past the end, where it is 0
 pub byte_lt : (bs : List ℕ) (i : ℕ) → Bytes bs → get_or bs i 0 < 256
-byte_lt [] i h = omega arith
-byte_lt (b ∷ bs) zero h = h.0
-byte_lt (b ∷ bs) (suc i) h = byte_lt bs i h.1
+byte_lt bs i h =
+    elim (cases_lt i (length bs)) [
+      | inl lt ↦ h i 0 lt
+      | inr ge ↦ rw (get_or-eq_default bs 0 ge) (omega arith)
+    ]
 
 -- a write keeps bytes bytes
 pub put_bytes : (bs : List ℕ) (at w v : ℕ) → Bytes bs → Bytes (put bs at w v)
@@ -36,11 +40,10 @@ put_bytes bs at zero v h = h
 put_bytes bs at (suc w) v h =
     let ih = put_bytes bs at w (v / 2) h in
     let i = (at + w) / 8 in
-    All-set _ (put bs at w (v / 2)) i _ (with_bit_lt _ (v % 2) (byte_lt (put bs at w (v / 2)) i ih) (omega arith) (7 - (at + w) % 8) (omega arith)) ih
+    All-set (λ b. b < 256) (put bs at w (v / 2)) i _ (with_bit_lt _ (v % 2) (byte_lt (put bs at w (v / 2)) i ih) (omega arith) (7 - (at + w) % 8) (omega arith)) ih
 
 pub zero_bytes : (n : ℕ) → Bytes (replicate n 0)
-zero_bytes zero = tt
-zero_bytes (suc n) = (omega arith, zero_bytes n)
+zero_bytes n = All-replicate (λ b. b < 256) n 0 (omega arith)
 
 -- each byte, by the field of all bits
 byte_of_all : (bs : List ℕ) (i : ℕ) → Bytes bs → i < length bs → get_or bs i 0 ≡ field bs 0 (8 * length bs) / 2 ^ (8 * (length bs - i - 1)) % 256

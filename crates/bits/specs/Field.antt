@@ -1,11 +1,11 @@
 -- Bytes as a row of bits, and a field: some bits in a row, read and written as one number.
 -- Bits are counted from the most significant bit of the first byte, and a field has its most significant bit first.
 use Rattle.std.specs.Prelude.{ℕ, zero, suc, ◌+◌, ◌-◌, ◌*◌, ◌/◌, ◌%◌, ◌^◌, ◌<◌, List, slice_index, slice_set}
-use Rattle.std.specs.List.{AllByRecursion}
+use Rattle.std.specs.List.{All}
 
 -- each number of the list is a byte
 abbrev pub Bytes : List ℕ → Type 0
-Bytes bs = AllByRecursion (λ b. b < 256) bs
+Bytes bs = All (λ b. b < 256) bs
 
 -- the bit at place i, which is 0 past the end
 abbrev pub bit_at : List ℕ → ℕ → ℕ
