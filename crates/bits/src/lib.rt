@@ -9,7 +9,8 @@ ghost use Rattle.bits.specs.Laws.{FieldSplits, LengthKept, OthersKept, OwnKept, 
 
 /// The number that the `width` bits from place `at` on write.
 pub fn read_field(bytes: &[u8], at: usize, width: u32) -> u32
-    requires { (width ≤ 32) × (at + width ≤ 8 * length bytes.now) }
+    requires narrow { width ≤ 32 }
+    requires inside { at + width ≤ 8 * length bytes.now }
     ensures { result ≡ field bytes.now at width }
 {
     // A field of no bits could ask for a shift by 64, so it goes by bits too.
@@ -22,7 +23,8 @@ pub fn read_field(bytes: &[u8], at: usize, width: u32) -> u32
 
 /// Makes the `width` bits from place `at` on the lowest bits of `value`, and leaves every other bit as it is.
 pub fn write_field(bytes: &mut [u8], at: usize, width: u32, value: u32)
-    requires { (width ≤ 32) × (at + width ≤ 8 * length bytes.old) }
+    requires narrow { width ≤ 32 }
+    requires inside { at + width ≤ 8 * length bytes.old }
     ensures { bytes.new ≡ put bytes.old at width value }
 {
     if bytes.len() < 8 || width == 0 {
@@ -53,7 +55,10 @@ struct Word {
 impl Word {
     /// The word that begins at the byte where the field does, or else the last one of a slice of `size` bytes.
     fn over(size: usize, at: usize, width: u32) -> Word
-        requires { (8 ≤ size) × ((0 < width) × ((width ≤ 32) × (at + width ≤ 8 * size))) }
+        requires long { 8 ≤ size }
+        requires some_bits { 0 < width }
+        requires narrow { width ≤ 32 }
+        requires inside { at + width ≤ 8 * size }
         ensures inside { result.first + 8 ≤ size }
         ensures before { 8 * result.first ≤ at }
         ensures after { at + width + result.below ≡ 8 * result.first + 64 }
@@ -68,7 +73,7 @@ impl Word {
 
 /// The number that 8 bytes write, the first the most significant; it compiles to one load and a byte swap.
 fn load(bytes: &[u8], first: usize) -> u64
-    requires { first + 8 ≤ length bytes.now }
+    requires inside { first + 8 ≤ length bytes.now }
     ensures { result ≡ field bytes.now (8 * first) 64 }
 {
     u64::from_be_bytes([
@@ -85,7 +90,7 @@ fn load(bytes: &[u8], first: usize) -> u64
 
 /// Makes 8 bytes those of `word`, the first the most significant; it compiles to a byte swap and one store.
 fn store(bytes: &mut [u8], first: usize, word: u64)
-    requires { first + 8 ≤ length bytes.old }
+    requires inside { first + 8 ≤ length bytes.old }
     ensures { bytes.new ≡ put bytes.old (8 * first) 64 word }
 {
     for k in 0..8 {
@@ -97,7 +102,8 @@ fn store(bytes: &mut [u8], first: usize, word: u64)
 
 /// The `width` bits of `word` above its lowest `below`.
 fn cut(word: u64, below: u32, width: u32) -> u32
-    requires { (below < 64) × (width ≤ 32) }
+    requires shift { below < 64 }
+    requires narrow { width ≤ 32 }
     ensures { result ≡ word / 2 ^ below % 2 ^ width }
 {
     ((word >> below) & ((1 << width) - 1)) as u32
@@ -105,7 +111,9 @@ fn cut(word: u64, below: u32, width: u32) -> u32
 
 /// The word with its `width` bits above the lowest `below` made those of `value`: it flips the bits that differ.
 fn patched(word: u64, below: u32, width: u32, value: u32) -> u64
-    requires { (below < 64) × ((width ≤ 32) × (below + width ≤ 64)) }
+    requires shift { below < 64 }
+    requires narrow { width ≤ 32 }
+    requires inside { below + width ≤ 64 }
     ensures { result ≡ (word / 2 ^ below / 2 ^ width * 2 ^ width + value % 2 ^ width) * 2 ^ below + word % 2 ^ below }
 {
     let mask = (1 << width) - 1;
@@ -115,7 +123,9 @@ fn patched(word: u64, below: u32, width: u32, value: u32) -> u64
 
 /// What `read_field` does, one bit at a time, for a slice of any length.
 fn read_by_bit(bytes: &[u8], at: usize, width: u32) -> u32
-    requires { (width ≤ 32) × ((at + width ≤ 8 * length bytes.now) × (at + width < 2 ^ 64)) }
+    requires narrow { width ≤ 32 }
+    requires inside { at + width ≤ 8 * length bytes.now }
+    requires counted { at + width < 2 ^ 64 }
     ensures { result ≡ field bytes.now at width }
 {
     let mut value: u32 = 0;
@@ -129,7 +139,9 @@ fn read_by_bit(bytes: &[u8], at: usize, width: u32) -> u32
 
 /// What `write_field` does, one bit at a time, for a slice of any length.
 fn write_by_bit(bytes: &mut [u8], at: usize, width: u32, value: u32)
-    requires { (width ≤ 32) × ((at + width ≤ 8 * length bytes.old) × (at + width < 2 ^ 64)) }
+    requires narrow { width ≤ 32 }
+    requires inside { at + width ≤ 8 * length bytes.old }
+    requires counted { at + width < 2 ^ 64 }
     ensures { bytes.new ≡ put bytes.old at width value }
 {
     for k in 0..width {
@@ -141,7 +153,8 @@ fn write_by_bit(bytes: &mut [u8], at: usize, width: u32, value: u32)
 
 /// The byte with its bit of weight 2^shift made `bit`.
 fn with_bit(byte: u8, shift: u32, bit: u8) -> u8
-    requires { (shift < 8) × (bit < 2) }
+    requires in_byte { shift < 8 }
+    requires one_bit { bit < 2 }
     ensures { result ≡ with_bit byte shift bit }
 {
     let low = byte & ((1 << shift) - 1);
