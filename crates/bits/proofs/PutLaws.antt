@@ -1,7 +1,9 @@
 -- What is written: a write's parts, what is read after it, and the writes of bytes.
-use Rattle.std.proofs.Common.{◌≡◌, ℕ, zero, suc, ◌+◌, ◌-◌, ◌*◌, ◌/◌, ◌%◌, ◌^◌, ◌<◌, ◌≤◌, ◌⊎◌, List, length, get_or, set, sym, refl, ap, ◌∙◌, ap₂, inl, inr, ⊎_elim, add-zero, add_assoc, add-suc, mul_assoc, pow-suc, add-one, arith, length-set, get_or-set_same, set-set}
-use Rattle.std.proofs.lemmas.List.{set-get_or}
-use Rattle.std.proofs.lemmas.Nat.{mod_below, mod_low, mod-pow-add, pow_pos, shr_high, shr-shr, shr_split}
+use Rattle.std.proofs.Common.{◌≡◌, ℕ, zero, suc, ◌+◌, ◌-◌, ◌*◌, ◌/◌, ◌%◌, ◌^◌, ◌<◌, ◌≤◌, ◌⊎◌, ◌≢◌, List, ◌∷◌, ◌++◌, length, get_or, set, take, drop, sym, refl, ap, ◌∙◌, ap₂, inl, inr, ⊎_elim, add-zero, append_assoc, add_assoc, add-suc, mul_assoc, pow-suc, add-one, arith, length-set, get_or-set_same, get_or-set_other, set-set}
+use borrow.Rule.Slice.PartMut.{put_mid}
+use Rattle.std.specs.Int.{byte_at, bytes_high_first}
+use Rattle.std.proofs.lemmas.List.{drop-drop, drop-set-lt, set-get_or, take_more_set, take-append-drop}
+use Rattle.std.proofs.lemmas.Nat.{mod_below, mod_low, mod-pow-add, pow-add, pow_pos, shr_high, shr-shr, shr_split}
 use Rattle.bits.specs.Field.{bit_at, field, put, put_bit, with_bit}
 use Rattle.bits.proofs.BitLaws.{bit_same, bit_other, bit_own, with_bit_next}
 use Rattle.bits.proofs.FieldLaws.{field_lt, field_split}
@@ -134,3 +136,29 @@ pub put_byte : (bs : List ℕ) (i v : ℕ) → i < length bs → get_or bs i 0 <
 put_byte bs i v lt h =
     let e : v % 2 ^ 8 * 2 ^ (8 - 8) + get_or bs i 0 % 2 ^ (8 - 8) ≡ v % 256 = omega arith in
     put_part bs i lt h 8 v (omega arith) ∙ ap (λ y. set bs i y) e
+
+pow_256 : (k : ℕ) → 2 ^ (8 * k) ≡ 256 ^ k
+pow_256 zero = refl
+pow_256 (suc k) =
+    let e : 8 * suc k ≡ 8 * k + 8 = omega arith in
+    rw (e, pow-add 2 (8 * k) 8, pow_256 k, pow-suc 256 k) refl
+
+byte_of : (k v : ℕ) → v / 2 ^ (8 * k) % 256 ≡ byte_at k v
+byte_of zero v = omega arith
+byte_of (suc k) v = ap (λ n. v / n % 256) (pow_256 (suc k))
+
+-- the write of n bytes
+pub put_whole : (n : ℕ) (bs : List ℕ) (i v : ℕ) → i + n ≤ length bs → ((j : ℕ) → i ≤ j → get_or bs j 0 < 256)
+    → put bs (8 * i) (8 * n) v ≡ put_mid i n bs (bytes_high_first n v)
+unfolding put
+put_whole zero bs i v fits small = sym (take-append-drop i bs)
+put_whole (suc n) bs i v fits small =
+    let e : 8 * suc n ≡ 8 + 8 * n = omega arith in
+    let d : 8 * i + 8 ≡ 8 * (i + 1) = omega arith in
+    let b = byte_at n v in
+    let lt : i < length bs = omega arith in
+    let len = length-set bs i b in
+    let more : (j : ℕ) → i + 1 ≤ j → get_or (set bs i b) j 0 < 256 = λ j h. let ne : j ≢ i = omega arith in rw get_or-set_other (small j (omega arith)) in
+    let f : i + 1 + n ≡ i + suc n = omega arith in
+    let rest : drop n (drop (i + 1) bs) ≡ drop (suc n) (drop i bs) = drop-drop n (i + 1) bs ∙ ap (λ k. drop k bs) f ∙ sym (drop-drop (suc n) i bs) in
+    rw (e, put_split bs (8 * i) 8 (8 * n) v, put_byte bs i (v / 2 ^ (8 * n)) lt (small i (omega arith)), byte_of n v, d, put_whole n (set bs i b) (i + 1) v (omega arith) more, take_more_set bs i b lt, append_assoc, drop-set-lt (i + 1) bs i b (omega arith)) (ap (λ xs. take i bs ++ b ∷ (bytes_high_first n v ++ xs)) rest)

@@ -1,25 +1,32 @@
--- What the code computes on words of 8 bytes, and one turn of each loop that writes.
-use Rattle.std.proofs.Common.{◌≡◌, ℕ, ◌+◌, ◌-◌, ◌*◌, ◌/◌, ◌%◌, ◌^◌, ◌<◌, ◌≤◌, List, length, get_or, set, sym, refl, ap, ◌∙◌, ap₂, arith}
+-- What the code computes on words of 8 bytes, and one turn of the loop that writes bits.
+use Rattle.std.proofs.Common.{◌≡◌, ℕ, ◌+◌, ◌-◌, ◌*◌, ◌/◌, ◌%◌, ◌^◌, ◌<◌, ◌≤◌, List, length, get_or, set, sym, refl, ap, ◌∙◌, ap₂, add-zero, arith}
+use borrow.Rule.Slice.PartMut.{put_mid}
 use lib.Bits.{bit_and, bit_xor, xor_zero_l, xor_zero_r, xor_self, xor_assoc, xor_mod, xor_block}
+use Rattle.std.specs.Int.{w64, from_be_bytes, to_be_bytes}
+use Rattle.std.specs.List.{between}
+use Rattle.std.proofs.lemmas.List.Edits.{get_or-between}
 use Rattle.std.proofs.lemmas.Nat.{and_mask, mod_below, one_shl, pow_pos, shl_whole, shr-shr, shr_split}
 use Rattle.bits.specs.Field.{field, put, with_bit}
 use Rattle.bits.proofs.FieldLaws.{field_byte, field_push, field_window}
-use Rattle.bits.proofs.PutLaws.{put_byte, put_more, put_split, put_window}
+use Rattle.bits.proofs.PutLaws.{put_more, put_whole, put_window}
 
 -- the field of 8 bytes
-pub field_8 : (bs : List ℕ) (f : ℕ)
-    → get_or bs f 0 < 256 → get_or bs (f + 1) 0 < 256 → get_or bs (f + 2) 0 < 256 → get_or bs (f + 3) 0 < 256 → get_or bs (f + 4) 0 < 256 → get_or bs (f + 5) 0 < 256 → get_or bs (f + 6) 0 < 256 → get_or bs (f + 7) 0 < 256
-    → field bs (8 * f) 64 ≡ get_or bs f 0 * 72057594037927936 + get_or bs (f + 1) 0 * 281474976710656 + get_or bs (f + 2) 0 * 1099511627776 + get_or bs (f + 3) 0 * 4294967296 + get_or bs (f + 4) 0 * 16777216 + get_or bs (f + 5) 0 * 65536 + get_or bs (f + 6) 0 * 256 + get_or bs (f + 7) 0
-field_8 bs f h0 h1 h2 h3 h4 h5 h6 h7 =
-    let e0 = field_byte bs f h0 in
-    let e1 = field_push bs f 1 h1 in
-    let e2 = field_push bs f 2 h2 in
-    let e3 = field_push bs f 3 h3 in
-    let e4 = field_push bs f 4 h4 in
-    let e5 = field_push bs f 5 h5 in
-    let e6 = field_push bs f 6 h6 in
-    let e7 = field_push bs f 7 h7 in
-    omega arith
+pub field_8 : (bs ys : List ℕ) (f : ℕ) → ((i : ℕ) → get_or bs i 0 < 256) → ys ≡ between f (f + 8) bs → from_be_bytes w64 ys ≡ field bs (8 * f) 64
+field_8 bs ys f small is =
+    let at : (k : ℕ) → k < 8 → get_or ys k 0 ≡ get_or bs (f + k) 0 = λ k lt. ap (λ xs. get_or xs k 0) is ∙ get_or-between bs f (f + 8) k 0 (omega arith) in
+    let e0 : field bs (8 * f) 8 ≡ get_or bs (f + 0) 0 = rw (add-zero f) (field_byte bs f (small f)) in
+    let e1 = field_push bs f 1 (small _) in
+    let e2 = field_push bs f 2 (small _) in
+    let e3 = field_push bs f 3 (small _) in
+    let e4 = field_push bs f 4 (small _) in
+    let e5 = field_push bs f 5 (small _) in
+    let e6 = field_push bs f 6 (small _) in
+    let e7 = field_push bs f 7 (small _) in
+    omega (arith, at 0 (omega arith), at 1 (omega arith), at 2 (omega arith), at 3 (omega arith), at 4 (omega arith), at 5 (omega arith), at 6 (omega arith), at 7 (omega arith))
+
+-- the write of 8 bytes
+pub put_8 : (bs ys : List ℕ) (f k v : ℕ) → k ≡ 8 → ys ≡ to_be_bytes w64 v → f + 8 ≤ length bs → ((i : ℕ) → get_or bs i 0 < 256) → put_mid f k bs ys ≡ put bs (8 * f) 64 v
+put_8 bs ys f k v all is fits small = ap₂ (λ (n : ℕ) (zs : List ℕ). put_mid f n bs zs) all is ∙ sym (put_whole 8 bs f v fits (λ i h. small i))
 
 -- the bits from `at` on, by a word that begins before them
 pub field_from : (bs : List ℕ) (first size at width below word : ℕ) → 8 * first ≤ at → at + width + below ≡ 8 * first + size → word ≡ field bs (8 * first) size → word / 2 ^ below % 2 ^ width ≡ field bs at width
@@ -49,19 +56,6 @@ put_next_bit bs cur at w k v r lt is e =
     let half : v / 2 ^ (w - (k + 1)) / 2 ≡ v / 2 ^ (w - k) = shr-shr v (w - (k + 1)) 1 ∙ ap (λ x. v / 2 ^ x) m in
     let one : bit_and (v / 2 ^ (w - (k + 1))) 1 ≡ v / 2 ^ (w - (k + 1)) % 2 = and_mask _ 1 in
     rw (put_more, half, ← is, e, j, one) refl
-
--- one turn of the loop that writes the n bytes of a word
-pub put_next_byte : (bs cur : List ℕ) (first n k word : ℕ) → k < n → first + n ≤ length cur → get_or cur (first + k) 0 < 256 → cur ≡ put bs (8 * first) (8 * k) (word / 2 ^ (8 * (n - k)))
-    → set cur (first + k) (bit_and (word / 2 ^ (8 * (n - 1 - k))) 255) ≡ put bs (8 * first) (8 * (k + 1)) (word / 2 ^ (8 * (n - (k + 1))))
-put_next_byte bs cur first n k word lt fits h is =
-    let V = word / 2 ^ (8 * (n - (k + 1))) in
-    let e : 8 * (k + 1) ≡ 8 * k + 8 = omega arith in
-    let d : 8 * first + 8 * k ≡ 8 * (first + k) = omega arith in
-    let j : n - 1 - k ≡ n - (k + 1) = omega arith in
-    let m : 8 * (n - (k + 1)) + 8 ≡ 8 * (n - k) = omega arith in
-    let up : V / 2 ^ 8 ≡ word / 2 ^ (8 * (n - k)) = shr-shr word (8 * (n - (k + 1))) 8 ∙ ap (λ x. word / 2 ^ x) m in
-    let low : bit_and V 255 ≡ V % 256 = and_mask V 8 in
-    rw (e, put_split bs (8 * first) (8 * k) 8 V, up, ← is, d, put_byte cur (first + k) V (omega arith) h, j, low) refl
 
 -- what the code of `patched` computes: it changes the bits that differ
 pub patch_is : (x t w v : ℕ) → w ≤ 32 → t + w ≤ 64

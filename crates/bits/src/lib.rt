@@ -76,16 +76,7 @@ fn load(bytes: &[u8], first: usize) -> u64
     requires inside { first + 8 ≤ length bytes.now }
     ensures { result ≡ field bytes.now (8 * first) 64 }
 {
-    u64::from_be_bytes([
-        bytes[first],
-        bytes[first + 1],
-        bytes[first + 2],
-        bytes[first + 3],
-        bytes[first + 4],
-        bytes[first + 5],
-        bytes[first + 6],
-        bytes[first + 7],
-    ])
+    u64::from_be_bytes(*bytes[first..first + 8].as_array().unwrap())
 }
 
 /// Makes 8 bytes those of `word`, the first the most significant; it compiles to a byte swap and one store.
@@ -93,11 +84,7 @@ fn store(bytes: &mut [u8], first: usize, word: u64)
     requires inside { first + 8 ≤ length bytes.old }
     ensures { bytes.new ≡ put bytes.old (8 * first) 64 word }
 {
-    for k in 0..8 {
-        // Read so that the proof knows the old element for a byte; compiled to nothing.
-        let _old = bytes[first + k];
-        bytes[first + k] = ((word >> (8 * (7 - k))) & 255) as u8;
-    }
+    bytes[first..first + 8].copy_from_slice(&word.to_be_bytes());
 }
 
 /// The `width` bits of `word` above its lowest `below`.

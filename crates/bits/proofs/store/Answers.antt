@@ -1,10 +1,8 @@
-use Rattle.std.proofs.Common.{arith, rules}
-use Rattle.bits.proofs.PutLaws.{put_none}
-use Rattle.bits.proofs.WordLaws.{put_next_byte}
+use Rattle.std.proofs.Common.{ℕ, ◌<◌, ◌∙◌, get_or, arith, rules}
+use Rattle.bits.proofs.WordLaws.{put_8}
 use Rattle.bits.proofs.store.Goals as goal
 
-pub loop-k-init : goal.loop-k-init
-loop-k-init c = rw put_none (search rules)
-
-pub loop-k-preserved : goal.loop-k-preserved
-loop-k-preserved c = put_next_byte c.args.bytes.now c.loop-k.bytes c.args.first 8 c.loop-k.k c.args.word (omega arith) (omega arith) (search rules) c.loop-k.invariant
+pub returns : goal.returns
+returns c =
+    let small : (i : ℕ) → get_or c.args.bytes.now i 0 < 256 = search rules in
+    put_8 _ _ _ _ _ (omega arith) (c.copy_from_slice.ensures.after ∙ c.to_be_bytes.ensures) (omega arith) small
