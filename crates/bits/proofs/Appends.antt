@@ -51,7 +51,7 @@ byte_of_all bs i h lt =
     let t = 8 * (length bs - i - 1) in
     let e : 8 * length bs ≡ 8 * i + 8 + t = omega arith in
     let d : 0 + 8 * i ≡ 8 * i = omega arith in
-    sym (ap (λ n. field bs 0 n / 2 ^ t % 256) e ∙ field_window bs 0 (8 * i) 8 t ∙ ap (λ n. field bs n 8) d ∙ field_byte bs i (byte_lt bs i h))
+    sym (field_window bs 0 (8 * i) 8 t (8 * length bs) e ∙ ap (λ n. field bs n 8) d ∙ field_byte bs i (byte_lt bs i h))
 
 -- bytes with the same bits are the same
 pub bytes_same : (bs cs : List ℕ) → Bytes bs → Bytes cs → length bs ≡ length cs → field bs 0 (8 * length bs) ≡ field cs 0 (8 * length bs) → bs ≡ cs

@@ -27,10 +27,11 @@ field_split bs at a (suc b) =
     let p : field bs at a * 2 ^ suc b ≡ field bs at a * 2 ^ b * 2 = ap (λ x. field bs at a * x) (pow-suc 2 b) ∙ sym (mul_assoc (field bs at a) (2 ^ b) 2) in
     rw (add-suc a b) (omega (arith, ih, e, p))
 
--- a field within a longer one, which has a bits before it and t bits after it
-pub field_window : (bs : List ℕ) (at a w t : ℕ) → field bs at (a + w + t) / 2 ^ t % 2 ^ w ≡ field bs (at + a) w
-field_window bs at a w t =
-    ap (λ x. x / 2 ^ t % 2 ^ w) (field_split bs at (a + w) t)
+-- a field within a longer one of n bits, which has a bits before it and t bits after it
+pub field_window : (bs : List ℕ) (at a w t n : ℕ) → n ≡ a + w + t → field bs at n / 2 ^ t % 2 ^ w ≡ field bs (at + a) w
+field_window bs at a w t n e =
+    ap (λ k. field bs at k / 2 ^ t % 2 ^ w) e
+    ∙ ap (λ x. x / 2 ^ t % 2 ^ w) (field_split bs at (a + w) t)
     ∙ ap (λ x. x % 2 ^ w) (shr_high (field bs at (a + w)) t (field bs (at + (a + w)) t) (field_lt bs (at + (a + w)) t) ∙ field_split bs at a w)
     ∙ mod_low (field bs at a) w (field bs (at + a) w) (field_lt bs (at + a) w)
 

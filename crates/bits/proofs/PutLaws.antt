@@ -83,10 +83,10 @@ field_put bs at (suc w) v h lt =
     let ih = field_put bs at w (v / 2) (omega arith) (omega arith) in
     rw (e, d, ih) (omega arith)
 
--- a write within a longer field, which has a bits before it and t bits after it, both kept
-pub put_window : (bs : List ℕ) (at a w t v : ℕ) → at + a + w ≤ 8 * length bs
-    → put bs at (a + w + t) ((field bs at (a + w + t) / 2 ^ t / 2 ^ w * 2 ^ w + v % 2 ^ w) * 2 ^ t + field bs at (a + w + t) % 2 ^ t) ≡ put bs (at + a) w v
-put_window bs at a w t v h =
+-- a write within a longer field of n bits, which has a bits before it and t bits after it, both kept
+pub put_window : (bs : List ℕ) (at a w t v n : ℕ) → n ≡ a + w + t → at + a + w ≤ 8 * length bs
+    → put bs at n ((field bs at n / 2 ^ t / 2 ^ w * 2 ^ w + v % 2 ^ w) * 2 ^ t + field bs at n % 2 ^ t) ≡ put bs (at + a) w v
+put_window bs at a w t v n e h =
     let H = field bs at a in
     let L = field bs (at + (a + w)) t in
     let V = v % 2 ^ w in
@@ -104,7 +104,8 @@ put_window bs at a w t v h =
     ∙ sym (put_low bs (at + a) w (v / 2 ^ w) V)
     ∙ ap (λ n. put bs (at + a) w n) (shr_split v w) in
     let W = (H * 2 ^ w + V) * 2 ^ t + L in
-    ap₂ (λ (x y : ℕ). put bs at (a + w + t) ((x * 2 ^ w + V) * 2 ^ t + y)) top low
+    ap (λ k. put bs at k ((field bs at k / 2 ^ t / 2 ^ w * 2 ^ w + V) * 2 ^ t + field bs at k % 2 ^ t)) e
+    ∙ ap₂ (λ (x y : ℕ). put bs at (a + w + t) ((x * 2 ^ w + V) * 2 ^ t + y)) top low
     ∙ put_split bs at (a + w) t W
     ∙ ap (λ n. put (put bs at (a + w) n) (at + (a + w)) t W) (shr_high (H * 2 ^ w + V) t L lt)
     ∙ ap (λ bs'. put bs' (at + (a + w)) t W) inner

@@ -7,8 +7,8 @@ use Rattle.std.specs.List.{between}
 use Rattle.std.proofs.lemmas.List.Edits.{get_or-between}
 use Rattle.std.proofs.lemmas.Nat.{and_mask, mod_below, one_shl, pow_pos, shl_whole, shr-shr, shr_split}
 use Rattle.bits.specs.Field.{field, put, with_bit}
-use Rattle.bits.proofs.FieldLaws.{field_byte, field_push, field_window}
-use Rattle.bits.proofs.PutLaws.{put_more, put_whole, put_window}
+use Rattle.bits.proofs.FieldLaws.{field_byte, field_push}
+use Rattle.bits.proofs.PutLaws.{put_more, put_whole}
 
 -- the field of 8 bytes
 pub field_8 : (bs ys : List ℕ) (f : ℕ) → ((i : ℕ) → get_or bs i 0 < 256) → ys ≡ between f (f + 8) bs → from_be_bytes w64 ys ≡ field bs (8 * f) 64
@@ -27,24 +27,6 @@ field_8 bs ys f small is =
 -- the write of 8 bytes
 pub put_8 : (bs ys : List ℕ) (f k v : ℕ) → k ≡ 8 → ys ≡ to_be_bytes w64 v → f + 8 ≤ length bs → ((i : ℕ) → get_or bs i 0 < 256) → put_mid f k bs ys ≡ put bs (8 * f) 64 v
 put_8 bs ys f k v all is fits small = ap₂ (λ (n : ℕ) (zs : List ℕ). put_mid f n bs zs) all is ∙ sym (put_whole 8 bs f v fits (λ i h. small i))
-
--- the bits from `at` on, by a word that begins before them
-pub field_from : (bs : List ℕ) (first size at width below word : ℕ) → 8 * first ≤ at → at + width + below ≡ 8 * first + size → word ≡ field bs (8 * first) size → word / 2 ^ below % 2 ^ width ≡ field bs at width
-field_from bs first size at width below word h e is =
-    let s : size ≡ at - 8 * first + width + below = omega arith in
-    let d : 8 * first + (at - 8 * first) ≡ at = omega arith in
-    ap (λ x. x / 2 ^ below % 2 ^ width) (is ∙ ap (λ n. field bs (8 * first) n) s) ∙ field_window bs (8 * first) (at - 8 * first) width below ∙ ap (λ i. field bs i width) d
-
--- a write from `at` on, by a word that begins before it
-pub put_from : (bs : List ℕ) (first size at width below word new value : ℕ) → 8 * first ≤ at → at + width + below ≡ 8 * first + size → at + width ≤ 8 * length bs
-    → word ≡ field bs (8 * first) size → new ≡ (word / 2 ^ below / 2 ^ width * 2 ^ width + value % 2 ^ width) * 2 ^ below + word % 2 ^ below
-    → put bs (8 * first) size new ≡ put bs at width value
-put_from bs first size at width below word new value h e fits is made =
-    let a = at - 8 * first in
-    let s : size ≡ a + width + below = omega arith in
-    let d : 8 * first + a ≡ at = omega arith in
-    let g : 8 * first + a + width ≤ 8 * length bs = omega arith in
-    rw (made, is, s) (put_window bs (8 * first) a width below value g ∙ ap (λ i. put bs i width value) d)
 
 -- one turn of the loop that writes bits
 pub put_next_bit : (bs cur : List ℕ) (at w k v r : ℕ) → k < w → cur ≡ put bs at k (v / 2 ^ (w - k))

@@ -3,7 +3,7 @@
 
 #![tactic(auto)]
 
-ghost use Rattle.std.specs.Prelude.{◌≡◌, ◌+◌, ◌*◌, ◌/◌, ◌%◌, ◌^◌, ◌<◌, ◌≤◌, length};
+ghost use Rattle.std.specs.Prelude.{◌≡◌, ◌+◌, ◌-◌, ◌*◌, ◌/◌, ◌%◌, ◌^◌, ◌<◌, ◌≤◌, length};
 ghost use Rattle.bits.specs.Field.{field, put, with_bit};
 ghost use Rattle.bits.specs.Laws.{FieldSplits, LengthKept, OthersKept, OwnKept, ReadsBack};
 
@@ -17,8 +17,7 @@ pub fn read_field(bytes: &[u8], at: usize, width: u32) -> u32
     if bytes.len() < 8 || width == 0 {
         return read_by_bit(bytes, at, width);
     }
-    let word = Word::over(bytes.len(), at, width);
-    cut(load(bytes, word.first), word.below, width)
+    Window::over(bytes.len(), at, width).read(bytes)
 }
 
 /// Makes the `width` bits from place `at` on the lowest bits of `value`, and leaves every other bit as it is.
@@ -31,9 +30,7 @@ pub fn write_field(bytes: &mut [u8], at: usize, width: u32, value: u32)
         write_by_bit(bytes, at, width, value);
         return;
     }
-    let word = Word::over(bytes.len(), at, width);
-    let new = patched(load(bytes, word.first), word.below, width, value);
-    store(bytes, word.first, new);
+    Window::over(bytes.len(), at, width).write(bytes, value);
 }
 
 /// Has no work to do: its contract states the laws of fields, so that the crate is built only with their proofs.
@@ -45,29 +42,76 @@ pub fn field_laws()
     ensures own_kept { OwnKept }
 {}
 
-/// The 8 bytes through which a field is read and written: the index of the first one, and how many of their bits follow the field.
+/// The 8 bytes through which a field is read and written: the index of the first one, how many of their bits come before
+/// the field, and how wide the field is.
 #[derive(Clone, Copy)]
-struct Word {
+struct Window {
     first: usize,
-    below: u32,
+    above: u32,
+    width: u32,
+    ghost some_bits: { 0 < width },
+    ghost narrow: { width ≤ 32 },
+    ghost inside: { above + width ≤ 64 },
 }
 
-impl Word {
-    /// The word that begins at the byte where the field does, or else the last one of a slice of `size` bytes.
-    fn over(size: usize, at: usize, width: u32) -> Word
+impl Window {
+    /// The window that begins at the byte where the field does, or else the last one of a slice of `size` bytes.
+    fn over(size: usize, at: usize, width: u32) -> Window
         requires long { 8 ≤ size }
         requires some_bits { 0 < width }
         requires narrow { width ≤ 32 }
         requires inside { at + width ≤ 8 * size }
-        ensures inside { result.first + 8 ≤ size }
-        ensures before { 8 * result.first ≤ at }
-        ensures after { at + width + result.below ≡ 8 * result.first + 64 }
+        ensures bytes { result.first + 8 ≤ size }
+        ensures place { 8 * result.first + result.above ≡ at }
+        ensures same_width { result.width ≡ width }
     {
         let first = (at / 8).min(size - 8);
-        Word {
+        Window {
             first,
-            below: 64 - (at - 8 * first) as u32 - width,
+            above: (at - 8 * first) as u32,
+            width,
         }
+    }
+
+    /// How many bits of the word that the 8 bytes write follow the field.
+    fn below(self) -> u32
+        ensures { result ≡ 64 - self.above - self.width }
+    {
+        64 - self.above - self.width
+    }
+
+    /// The field's bits of the word.
+    fn cut(self, word: u64) -> u32
+        ensures { let below = 64 - self.above - self.width in result ≡ word / 2 ^ below % 2 ^ self.width }
+    {
+        ((word >> self.below()) & ((1 << self.width) - 1)) as u32
+    }
+
+    /// The word with the field's bits made those of `value`: it flips the bits that differ.
+    fn patched(self, word: u64, value: u32) -> u64
+        ensures { let below = 64 - self.above - self.width in result ≡ (word / 2 ^ below / 2 ^ self.width * 2 ^ self.width + value % 2 ^ self.width) * 2 ^ below + word % 2 ^ below }
+    {
+        let below = self.below();
+        let mask = (1 << self.width) - 1;
+        let changed = ((word >> below) ^ u64::from(value)) & mask;
+        word ^ (changed << below)
+    }
+
+    /// The number that the field writes.
+    fn read(self, bytes: &[u8]) -> u32
+        requires inside { self.first + 8 ≤ length bytes.now }
+        ensures { result ≡ field bytes.now (8 * self.first + self.above) self.width }
+    {
+        self.cut(load(bytes, self.first))
+    }
+
+    /// Makes the field the lowest bits of `value`.
+    fn write(self, bytes: &mut [u8], value: u32)
+        requires inside { self.first + 8 ≤ length bytes.old }
+        ensures { bytes.new ≡ put bytes.old (8 * self.first + self.above) self.width value }
+    {
+        let new = self.patched(load(bytes, self.first), value);
+        store(bytes, self.first, new);
     }
 }
 
@@ -85,27 +129,6 @@ fn store(bytes: &mut [u8], first: usize, word: u64)
     ensures { bytes.new ≡ put bytes.old (8 * first) 64 word }
 {
     bytes[first..first + 8].copy_from_slice(&word.to_be_bytes());
-}
-
-/// The `width` bits of `word` above its lowest `below`.
-fn cut(word: u64, below: u32, width: u32) -> u32
-    requires shift { below < 64 }
-    requires narrow { width ≤ 32 }
-    ensures { result ≡ word / 2 ^ below % 2 ^ width }
-{
-    ((word >> below) & ((1 << width) - 1)) as u32
-}
-
-/// The word with its `width` bits above the lowest `below` made those of `value`: it flips the bits that differ.
-fn patched(word: u64, below: u32, width: u32, value: u32) -> u64
-    requires shift { below < 64 }
-    requires narrow { width ≤ 32 }
-    requires inside { below + width ≤ 64 }
-    ensures { result ≡ (word / 2 ^ below / 2 ^ width * 2 ^ width + value % 2 ^ width) * 2 ^ below + word % 2 ^ below }
-{
-    let mask = (1 << width) - 1;
-    let changed = ((word >> below) ^ value as u64) & mask;
-    word ^ (changed << below)
 }
 
 /// What `read_field` does, one bit at a time, for a slice of any length.

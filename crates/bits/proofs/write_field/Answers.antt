@@ -1,6 +1,0 @@
-use Rattle.std.proofs.Common.{◌∙◌, arith}
-use Rattle.bits.proofs.WordLaws.{put_from}
-use Rattle.bits.proofs.write_field.Goals as goal
-
-pub returns : goal.returns
-returns c = c.store.ensures ∙ put_from _ _ _ _ _ _ _ _ _ (omega arith) (omega arith) (omega arith) c.load.ensures c.patched-new.ensures
