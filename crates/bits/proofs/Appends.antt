@@ -1,9 +1,9 @@
 -- Lists that go on, and lists of bytes.
-use Rattle.std.proofs.Common.{◌≡◌, ℕ, zero, suc, ◌+◌, ◌-◌, ◌*◌, ◌/◌, ◌%◌, ◌^◌, ◌<◌, ◌≤◌, List, ◌++◌, length, get_or, replicate, sym, refl, ap, ◌∙◌, ap₂, inl, inr, arith}
+use Rattle.std.proofs.Common.{◌≡◌, ℕ, zero, suc, ◌+◌, ◌-◌, ◌*◌, ◌/◌, ◌%◌, ◌^◌, ◌<◌, ◌≤◌, List, ◌++◌, length, get_or, replicate, take, sym, refl, ap, ◌∙◌, ap₂, inl, inr, arith}
 use Rattle.std.proofs.Math.ListN.{get_or-eq_default}
 use Rattle.std.proofs.lemmas.Bool.{cases_lt}
 use Rattle.std.proofs.lemmas.List.Elements.{All-replicate, All-set}
-use Rattle.std.proofs.lemmas.List.{ext_get_or, get_or_append_left, set-append_left}
+use Rattle.std.proofs.lemmas.List.{ext_get_or, get_or_append_left, set-append_left, take_at}
 use Rattle.bits.specs.Field.{Bytes, field, put}
 use Rattle.bits.proofs.BitLaws.{with_bit_lt}
 use Rattle.bits.proofs.FieldLaws.{field_byte, field_window}
@@ -24,6 +24,10 @@ put_append bs cs at zero v h = refl
 put_append bs cs at (suc w) v h =
     let k : (at + w) / 8 < length (put bs at w (v / 2)) = omega (arith, length_put bs at w (v / 2)) in
     rw (put_append bs cs at w (v / 2) (omega arith), get_or_append_left, set-append_left) refl
+
+-- the first list, after a write within it
+pub put_within : (bs cs : List ℕ) (at w v : ℕ) → at + w ≤ 8 * length bs → take (length bs) (put (bs ++ cs) at w v) ≡ put bs at w v
+put_within bs cs at w v h = rw (put_append bs cs at w v h) (take_at (put bs at w v) cs (length bs) (length_put bs at w v))
 
 -- what is read of a list of bytes is a byte, also past the end, where it is 0
 pub byte_lt : (bs : List ℕ) (i : ℕ) → Bytes bs → get_or bs i 0 < 256

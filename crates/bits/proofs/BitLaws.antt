@@ -1,9 +1,8 @@
 -- A byte with one bit made another, and a list with one bit made another.
 use Rattle.std.proofs.Common.{◌≡◌, ℕ, suc, ◌+◌, ◌-◌, ◌*◌, ◌/◌, ◌%◌, ◌^◌, ◌<◌, ◌≤◌, ◌≢◌, List, length, get_or, set, sym, refl, ap, ◌∙◌, ap₂, inl, inr, pow-suc, mul_assoc, add-mul, arith, get_or-set_other, get_or-set_same}
-use lib.Bits.{bit_and, bit_or}
 use Rattle.std.proofs.Math.Nat.{mul-le-mul_right}
 use Rattle.std.proofs.lemmas.List.{set-get_or}
-use Rattle.std.proofs.lemmas.Nat.{and_mask, div_below, mod_below, mod_low, mod-pow-add, one_shl, or_shifted, pow-add, pow_pos, shr_high, shr_le, shr_split}
+use Rattle.std.proofs.lemmas.Nat.{div_below, mod_below, mod_low, mod-pow-add, pow-add, pow_pos, shr_high, shr_split}
 use Rattle.std.proofs.lemmas.Nat.Bits.{bit_at_cat_high, bit_at_cat_low}
 use Rattle.std.proofs.lemmas.Bool.{cases_eq, cases_order}
 use Rattle.bits.specs.Field.{bit_at, put_bit, with_bit}
@@ -69,16 +68,6 @@ with_bit_lt x b hx hb s hs =
     let low : x % P < P = mod_below x P (pow_pos s) in
     let one : b ≤ 1 = omega arith in
     omega (arith, mul-le-mul_right (2 * P) high, mul-le-mul_right P one)
-
--- what the code of `with_bit` computes
-pub with_bit_is : (x s b : ℕ) → x < 256 → s < 8 → b < 2
-    → bit_or (bit_or (x / 2 ^ s / 2 * 2 % 256) b * 2 ^ s % 256) (bit_and x (1 * 2 ^ s % 256 - 1)) ≡ with_bit x s b
-with_bit_is x s b hx hs hb =
-    let h1 : x / 2 ^ s / 2 * 2 % 256 ≡ x / 2 ^ s / 2 * 2 = omega (arith, shr_le x s) in
-    let h2 : bit_or (x / 2 ^ s / 2 * 2) b ≡ x / 2 ^ s / 2 * 2 + b = or_shifted (x / 2 ^ s / 2) 1 b hb in
-    let h3 : (x / 2 ^ s / 2 * 2 + b) * 2 ^ s % 256 ≡ (x / 2 ^ s / 2 * 2 + b) * 2 ^ s = omega (arith, with_bit_lt x b hx hb s hs) in
-    let h4 : 1 * 2 ^ s % 256 ≡ 2 ^ s = one_shl s 8 hs in
-    rw (h1, h2, h3, h4, and_mask x s) (or_shifted _ s _ (mod_below x (2 ^ s) (pow_pos s)))
 
 -- a byte that has p for its highest bits and is x below them takes b for one bit more
 pub with_bit_next : (p x k b : ℕ) → with_bit (p * 2 ^ (1 + k) + x % 2 ^ (1 + k)) k b ≡ (p * 2 + b) * 2 ^ k + x % 2 ^ k

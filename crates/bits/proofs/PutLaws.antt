@@ -12,10 +12,6 @@ pub put_none : (bs : List ℕ) (at v : ℕ) → put bs at 0 v ≡ bs
 unfolding put
 put_none bs at v = refl
 
-pub put_more : (bs : List ℕ) (at w v : ℕ) → put bs at (w + 1) v ≡ put_bit (put bs at w (v / 2)) (at + w) (v % 2)
-unfolding put
-put_more bs at w v = ap (λ k. put bs at k v) (add-one w)
-
 -- a write keeps the length
 pub length_put : (bs : List ℕ) (at w v : ℕ) → length (put bs at w v) ≡ length bs
 unfolding put
@@ -133,7 +129,7 @@ put_part bs i lt h (suc j) v le =
     rw (ih, q, m, get_or-set_same, set-set) (ap (λ y. set bs i y) (byte_next (get_or bs i 0) v j (omega arith)))
 
 -- the write of a whole byte
-pub put_byte : (bs : List ℕ) (i v : ℕ) → i < length bs → get_or bs i 0 < 256 → put bs (8 * i) 8 v ≡ set bs i (v % 256)
+put_byte : (bs : List ℕ) (i v : ℕ) → i < length bs → get_or bs i 0 < 256 → put bs (8 * i) 8 v ≡ set bs i (v % 256)
 put_byte bs i v lt h =
     let e : v % 2 ^ 8 * 2 ^ (8 - 8) + get_or bs i 0 % 2 ^ (8 - 8) ≡ v % 256 = omega arith in
     put_part bs i lt h 8 v (omega arith) ∙ ap (λ y. set bs i y) e

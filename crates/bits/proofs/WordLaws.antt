@@ -1,14 +1,14 @@
--- What the code computes on words of 8 bytes, and one turn of the loop that writes bits.
-use Rattle.std.proofs.Common.{◌≡◌, ℕ, ◌+◌, ◌-◌, ◌*◌, ◌/◌, ◌%◌, ◌^◌, ◌<◌, ◌≤◌, List, length, get_or, set, sym, refl, ap, ◌∙◌, ap₂, add-zero, arith}
+-- What the code computes on words of 8 bytes.
+use Rattle.std.proofs.Common.{◌≡◌, ℕ, ◌+◌, ◌-◌, ◌*◌, ◌/◌, ◌%◌, ◌^◌, ◌<◌, ◌≤◌, List, length, get_or, sym, ap, ◌∙◌, ap₂, add-zero, arith}
 use borrow.Rule.Slice.PartMut.{put_mid}
 use lib.Bits.{bit_and, bit_xor, xor_zero_l, xor_zero_r, xor_self, xor_assoc, xor_mod, xor_block}
 use Rattle.std.specs.Int.{w64, from_be_bytes, to_be_bytes}
 use Rattle.std.specs.List.{between}
 use Rattle.std.proofs.lemmas.List.Edits.{get_or-between}
-use Rattle.std.proofs.lemmas.Nat.{and_mask, mod_below, one_shl, pow_pos, shl_whole, shr-shr, shr_split}
-use Rattle.bits.specs.Field.{field, put, with_bit}
+use Rattle.std.proofs.lemmas.Nat.{and_mask, mod_below, one_shl, pow_pos, shl_whole, shr_split}
+use Rattle.bits.specs.Field.{field, put}
 use Rattle.bits.proofs.FieldLaws.{field_byte, field_push}
-use Rattle.bits.proofs.PutLaws.{put_more, put_whole}
+use Rattle.bits.proofs.PutLaws.{put_whole}
 
 -- the field of 8 bytes
 pub field_8 : (bs ys : List ℕ) (f : ℕ) → ((i : ℕ) → get_or bs i 0 < 256) → ys ≡ between f (f + 8) bs → from_be_bytes w64 ys ≡ field bs (8 * f) 64
@@ -27,17 +27,6 @@ field_8 bs ys f small is =
 -- the write of 8 bytes
 pub put_8 : (bs ys : List ℕ) (f k v : ℕ) → k ≡ 8 → ys ≡ to_be_bytes w64 v → f + 8 ≤ length bs → ((i : ℕ) → get_or bs i 0 < 256) → put_mid f k bs ys ≡ put bs (8 * f) 64 v
 put_8 bs ys f k v all is fits small = ap₂ (λ (n : ℕ) (zs : List ℕ). put_mid f n bs zs) all is ∙ sym (put_whole 8 bs f v fits (λ i h. small i))
-
--- one turn of the loop that writes bits
-pub put_next_bit : (bs cur : List ℕ) (at w k v r : ℕ) → k < w → cur ≡ put bs at k (v / 2 ^ (w - k))
-    → r ≡ with_bit (get_or cur ((at + k) / 8) 0) (7 - (at + k) % 8) (bit_and (v / 2 ^ (w - 1 - k)) 1)
-    → set cur ((at + k) / 8) r ≡ put bs at (k + 1) (v / 2 ^ (w - (k + 1)))
-put_next_bit bs cur at w k v r lt is e =
-    let j : w - 1 - k ≡ w - (k + 1) = omega arith in
-    let m : w - (k + 1) + 1 ≡ w - k = omega arith in
-    let half : v / 2 ^ (w - (k + 1)) / 2 ≡ v / 2 ^ (w - k) = shr-shr v (w - (k + 1)) 1 ∙ ap (λ x. v / 2 ^ x) m in
-    let one : bit_and (v / 2 ^ (w - (k + 1))) 1 ≡ v / 2 ^ (w - (k + 1)) % 2 = and_mask _ 1 in
-    rw (put_more, half, ← is, e, j, one) refl
 
 -- what the code of `patched` computes: it changes the bits that differ
 pub patch_is : (x t w v : ℕ) → w ≤ 32 → t + w ≤ 64

@@ -1,10 +1,10 @@
 //! Fields of up to 32 bits at any place of a slice of bytes, most significant bit first.
-//! A field is read and written through one word of 8 bytes, and bit by bit where the slice is shorter than that.
+//! A field is read and written through one word of 8 bytes. A slice shorter than that is copied into 8 bytes first.
 
 #![tactic(auto)]
 
-ghost use Rattle.std.specs.Prelude.{◌≡◌, ◌+◌, ◌-◌, ◌*◌, ◌/◌, ◌%◌, ◌^◌, ◌<◌, ◌≤◌, length};
-ghost use Rattle.bits.specs.Field.{field, put, with_bit};
+ghost use Rattle.std.specs.Prelude.{◌≡◌, ℕ, ◌+◌, ◌-◌, ◌*◌, ◌/◌, ◌%◌, ◌^◌, ◌<◌, ◌≤◌, ◌++◌, length, replicate};
+ghost use Rattle.bits.specs.Field.{field, put};
 ghost use Rattle.bits.specs.Laws.{FieldSplits, LengthKept, OthersKept, OwnKept, ReadsBack};
 
 /// The number that the `width` bits from place `at` on write.
@@ -13,9 +13,12 @@ pub fn read_field(bytes: &[u8], at: usize, width: u32) -> u32
     requires inside { at + width ≤ 8 * length bytes.now }
     ensures { result ≡ field bytes.now at width }
 {
-    // A field of no bits could ask for a shift by 64, so it goes by bits too.
-    if bytes.len() < 8 || width == 0 {
-        return read_by_bit(bytes, at, width);
+    // A field of no bits has no window: it could ask for a shift by 64.
+    if width == 0 {
+        return 0;
+    }
+    if bytes.len() < 8 {
+        return read_short(bytes, Window::over(8, at, width));
     }
     Window::over(bytes.len(), at, width).read(bytes)
 }
@@ -26,8 +29,11 @@ pub fn write_field(bytes: &mut [u8], at: usize, width: u32, value: u32)
     requires inside { at + width ≤ 8 * length bytes.old }
     ensures { bytes.new ≡ put bytes.old at width value }
 {
-    if bytes.len() < 8 || width == 0 {
-        write_by_bit(bytes, at, width, value);
+    if width == 0 {
+        return;
+    }
+    if bytes.len() < 8 {
+        write_short(bytes, Window::over(8, at, width), value);
         return;
     }
     Window::over(bytes.len(), at, width).write(bytes, value);
@@ -115,6 +121,40 @@ impl Window {
     }
 }
 
+/// What the window's `read` does, for a slice shorter than 8 bytes. Out of line, so that a longer slice costs no stack frame.
+#[inline(never)]
+fn read_short(bytes: &[u8], window: Window) -> u32
+    requires short { length bytes.now < 8 }
+    requires start { window.first ≡ 0 }
+    requires inside { 8 * window.first + window.above + window.width ≤ 8 * length bytes.now }
+    ensures { result ≡ field bytes.now (8 * window.first + window.above) window.width }
+{
+    window.read(&padded(bytes))
+}
+
+/// What the window's `write` does, for a slice shorter than 8 bytes. Out of line as `read_short` is.
+#[inline(never)]
+fn write_short(bytes: &mut [u8], window: Window, value: u32)
+    requires short { length bytes.old < 8 }
+    requires start { window.first ≡ 0 }
+    requires inside { 8 * window.first + window.above + window.width ≤ 8 * length bytes.old }
+    ensures { bytes.new ≡ put bytes.old (8 * window.first + window.above) window.width value }
+{
+    let mut all = padded(bytes);
+    window.write(&mut all, value);
+    bytes.copy_from_slice(&all[..bytes.len()]);
+}
+
+/// The bytes of a slice shorter than 8, and then zeros.
+fn padded(bytes: &[u8]) -> [u8; 8]
+    requires short { length bytes.now < 8 }
+    ensures { result ≡ bytes.now ++ replicate (8 - length bytes.now) 0 }
+{
+    let mut all = [0; 8];
+    all[..bytes.len()].copy_from_slice(bytes);
+    all
+}
+
 /// The number that 8 bytes write, the first the most significant; it compiles to one load and a byte swap.
 fn load(bytes: &[u8], first: usize) -> u64
     requires inside { first + 8 ≤ length bytes.now }
@@ -129,45 +169,4 @@ fn store(bytes: &mut [u8], first: usize, word: u64)
     ensures { bytes.new ≡ put bytes.old (8 * first) 64 word }
 {
     bytes[first..first + 8].copy_from_slice(&word.to_be_bytes());
-}
-
-/// What `read_field` does, one bit at a time, for a slice of any length.
-fn read_by_bit(bytes: &[u8], at: usize, width: u32) -> u32
-    requires narrow { width ≤ 32 }
-    requires inside { at + width ≤ 8 * length bytes.now }
-    requires counted { at + width < 2 ^ 64 }
-    ensures { result ≡ field bytes.now at width }
-{
-    let mut value: u32 = 0;
-    for k in 0..width {
-        let place = at + k as usize;
-        let bit = (bytes[place / 8] >> (7 - place % 8)) & 1;
-        value = value * 2 + bit as u32;
-    }
-    value
-}
-
-/// What `write_field` does, one bit at a time, for a slice of any length.
-fn write_by_bit(bytes: &mut [u8], at: usize, width: u32, value: u32)
-    requires narrow { width ≤ 32 }
-    requires inside { at + width ≤ 8 * length bytes.old }
-    requires counted { at + width < 2 ^ 64 }
-    ensures { bytes.new ≡ put bytes.old at width value }
-{
-    for k in 0..width {
-        let place = at + k as usize;
-        let bit = (value >> (width - 1 - k)) & 1;
-        bytes[place / 8] = with_bit(bytes[place / 8], 7 - (place % 8) as u32, bit as u8);
-    }
-}
-
-/// The byte with its bit of weight 2^shift made `bit`.
-fn with_bit(byte: u8, shift: u32, bit: u8) -> u8
-    requires in_byte { shift < 8 }
-    requires one_bit { bit < 2 }
-    ensures { result ≡ with_bit byte shift bit }
-{
-    let low = byte & ((1 << shift) - 1);
-    let high = byte >> shift >> 1 << 1;
-    ((high | bit) << shift) | low
 }
