@@ -18,8 +18,7 @@ const LONGER: [u8; 32] = [
 #[derive(Clone, Copy)]
 struct Change {
     why: &'static str,
-    first: (usize, u8),
-    second: (usize, u8),
+    bytes: &'static [(usize, u8)],
     number: u8,
     bit: usize,
 }
@@ -27,120 +26,103 @@ struct Change {
 const CHANGES: [Change; 17] = [
     Change {
         why: "no variable",
-        first: (0, 0x00),
-        second: (0, 0x00),
+        bytes: &[(0, 0x00)],
         number: 2,
         bit: 0,
     },
     Change {
         why: "no place",
-        first: (1, 0x00),
-        second: (1, 0x00),
+        bytes: &[(1, 0x00)],
         number: 2,
         bit: 4,
     },
     Change {
         why: "a guarded place that is none of the places",
-        first: (2, 0x20),
-        second: (2, 0x20),
+        bytes: &[(2, 0x20)],
         number: 2,
         bit: 12,
     },
     Change {
         why: "filling of the header",
-        first: (3, 0x09),
-        second: (3, 0x09),
+        bytes: &[(3, 0x09)],
         number: 2,
         bit: 29,
     },
     Change {
         why: "two edges in the header, and the bytes of one",
-        first: (3, 0x10),
-        second: (3, 0x10),
+        bytes: &[(3, 0x10)],
         number: 1,
         bit: 0,
     },
     Change {
         why: "a from that is no place",
-        first: (4, 0x02),
-        second: (4, 0x02),
+        bytes: &[(4, 0x02)],
         number: 3,
         bit: 32,
     },
     Change {
         why: "a to that is no place",
-        first: (5, 0x02),
-        second: (5, 0x02),
+        bytes: &[(5, 0x02)],
         number: 3,
         bit: 40,
     },
     Change {
         why: "a form above 11",
-        first: (6, 0xc0),
-        second: (6, 0xc0),
+        bytes: &[(6, 0xc0)],
         number: 3,
         bit: 48,
     },
     Change {
         why: "a target in a test",
-        first: (6, 0x81),
-        second: (6, 0x81),
+        bytes: &[(6, 0x81)],
         number: 3,
         bit: 52,
     },
     Change {
         why: "a target that is no variable",
-        first: (6, 0x01),
-        second: (6, 0x01),
+        bytes: &[(6, 0x01)],
         number: 3,
         bit: 52,
     },
     Change {
         why: "a left mark in a read",
-        first: (6, 0x50),
-        second: (6, 0x50),
+        bytes: &[(6, 0x50)],
         number: 3,
         bit: 56,
     },
     Change {
         why: "a left number in a read",
-        first: (6, 0x50),
-        second: (7, 0x40),
+        bytes: &[(6, 0x50), (7, 0x40)],
         number: 3,
         bit: 57,
     },
     Change {
         why: "a left that is no variable",
-        first: (11, 0x80),
-        second: (11, 0x80),
+        bytes: &[(11, 0x80)],
         number: 3,
         bit: 57,
     },
     Change {
         why: "a right mark in a set",
-        first: (6, 0x00),
-        second: (11, 0x40),
+        bytes: &[(6, 0x00), (11, 0x40)],
         number: 3,
         bit: 89,
     },
     Change {
         why: "a right number in a set",
-        first: (6, 0x00),
-        second: (15, 0x40),
+        bytes: &[(6, 0x00), (15, 0x40)],
         number: 3,
         bit: 90,
     },
     Change {
         why: "a right that is no variable",
-        first: (11, 0x40),
-        second: (15, 0x40),
+        bytes: &[(11, 0x40), (15, 0x40)],
         number: 3,
         bit: 90,
     },
     Change {
         why: "filling of the edge",
-        first: (15, 0x01),
-        second: (15, 0x01),
+        bytes: &[(15, 0x01)],
         number: 3,
         bit: 122,
     },
@@ -148,9 +130,9 @@ const CHANGES: [Change; 17] = [
 
 fn changed(change: Change) -> [u8; 16] {
     let mut bytes = MACRO_A;
-    for (at, byte) in [change.first, change.second] {
-        if at < 16 {
-            bytes[at] = byte;
+    for (at, value) in change.bytes {
+        if let Some(byte) = bytes.get_mut(*at) {
+            *byte = *value;
         }
     }
     bytes
