@@ -151,43 +151,53 @@ fn each_part_of_an_edge_is_refused(rt: HostRuntime) {
     }
 }
 
-/// A header with a part out of range, and the bit at which it must be refused.
+/// A macro of no edge with a part of its header out of range, and the bit at which it must be refused.
 #[derive(Clone, Copy)]
 struct WrongHeader {
     why: &'static str,
-    variables: u8,
-    places: u8,
-    guarded: u8,
+    source: Macro<'static>,
     bit: usize,
 }
 
 const WRONG_HEADERS: [WrongHeader; 4] = [
     WrongHeader {
         why: "no variable",
-        variables: 0,
-        places: 2,
-        guarded: 1,
+        source: Macro {
+            variables: 0,
+            places: 2,
+            guarded: 1,
+            edges: &[],
+        },
         bit: 0,
     },
     WrongHeader {
         why: "sixteen variables",
-        variables: 16,
-        places: 2,
-        guarded: 1,
+        source: Macro {
+            variables: 16,
+            places: 2,
+            guarded: 1,
+            edges: &[],
+        },
         bit: 0,
     },
     WrongHeader {
         why: "no place",
-        variables: 1,
-        places: 0,
-        guarded: 0,
+        source: Macro {
+            variables: 1,
+            places: 0,
+            guarded: 0,
+            edges: &[],
+        },
         bit: 4,
     },
     WrongHeader {
         why: "a guarded place that is none of the places",
-        variables: 1,
-        places: 2,
-        guarded: 2,
+        source: Macro {
+            variables: 1,
+            places: 2,
+            guarded: 2,
+            edges: &[],
+        },
         bit: 12,
     },
 ];
@@ -205,14 +215,8 @@ fn header_fault(bit: usize) -> Option<Told> {
 fn each_part_of_a_header_is_refused(rt: HostRuntime) {
     for wrong in WRONG_HEADERS {
         let mut out = [0xaau8; 4];
-        let source = Macro {
-            variables: wrong.variables,
-            places: wrong.places,
-            guarded: wrong.guarded,
-            edges: &[],
-        };
         assert!(rt;
-            told(source, &mut out) == header_fault(wrong.bit),
+            told(wrong.source, &mut out) == header_fault(wrong.bit),
             "{}",
             wrong.why
         );
