@@ -1,8 +1,9 @@
 //! The longest macro, packed and read back, and macros that packing refuses.
 use macros::faults::{Call, Told};
-use macros::parts::{Arithmetic, Comparison, Edge, Operand, Operation};
-use packing::{Macro, pack};
+use macros::parts::{Arithmetic, Comparison, Edge, Header, Operand, Operation};
+use packing::{Macro, PackRefusal, pack};
 use reading::{edge_at, read_macro};
+use std::array;
 use std::test::Fail;
 
 /// An edge whose every operand is used.
@@ -19,24 +20,13 @@ fn edge(number: u16) -> Edge {
     }
 }
 
-fn edges() -> [Edge; 511] {
-    let mut all = [edge(0); 511];
-    for number in 0..511u16 {
-        all[usize::from(number)] = edge(number);
-    }
-    all
-}
-
 fn told(source: Macro, out: &mut [u8]) -> Option<Told> {
-    match pack(source, out) {
-        Ok(_) => None,
-        Err(refusal) => Some(refusal.told()),
-    }
+    pack(source, out).err().map(PackRefusal::told)
 }
 
 #[test]
 fn the_longest_macro_reads_back(rt: HostRuntime) -> Result<(), Fail> {
-    let all = edges();
+    let all: [Edge; 511] = array::from_fn(|number| edge(number as u16));
     let source = Macro {
         variables: 15,
         places: 255,
@@ -54,10 +44,13 @@ fn the_longest_macro_reads_back(rt: HostRuntime) -> Result<(), Fail> {
         return Err(Fail::new("not read"));
     };
     assert!(rt;
-        header.edges == 511
-            && header.variables == 15
-            && header.places == 255
-            && header.guarded == 254
+        header
+            == Header {
+                variables: 15,
+                places: 255,
+                guarded: 254,
+                edges: 511,
+            }
     );
     for number in 0..header.edges {
         assert!(rt; edge_at(file, header, usize::from(number)) == edge(number));

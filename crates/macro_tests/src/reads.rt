@@ -1,20 +1,14 @@
 //! Macro A, changed in one field after the other, and cut short or made longer.
 use macros::faults::{Call, Told};
 use macros::parts::{Comparison, Edge, Header, Operand, Operation};
-use reading::{edge_at, read, read_macro};
+use reading::{ReadRefusal, edge_at, read, read_macro};
 use std::test::Fail;
 
 const MACRO_A: [u8; 16] = [
     0x10, 0x20, 0x10, 0x08, 0x00, 0x01, 0x80, 0x80, 0, 0, 0, 0, 0, 0, 0, 0,
 ];
 
-/// Macro A and then zero bytes.
-const LONGER: [u8; 32] = [
-    0x10, 0x20, 0x10, 0x08, 0x00, 0x01, 0x80, 0x80, 0, 0, 0, 0, 0, 0, 0, 0, 0, 0, 0, 0, 0, 0, 0, 0,
-    0, 0, 0, 0, 0, 0, 0, 0,
-];
-
-/// Two bytes of macro A given other values, and the refusal that this must bring.
+/// Bytes of macro A given other values, each at its number, and the refusal that this must bring.
 #[derive(Clone, Copy)]
 struct Change {
     why: &'static str,
@@ -139,10 +133,7 @@ fn changed(change: Change) -> [u8; 16] {
 }
 
 fn told(bytes: &[u8]) -> Option<Told> {
-    match read(bytes) {
-        Ok(_) => None,
-        Err(refusal) => Some(refusal.told()),
-    }
+    read(bytes).err().map(ReadRefusal::told)
 }
 
 #[test]
@@ -159,7 +150,6 @@ fn macro_a_is_read(rt: HostRuntime) -> Result<(), Fail> {
                 edges: 1,
             }
     );
-    assert!(rt; header.edges == 1);
     let edge = Edge {
         from: 0,
         to: 1,
@@ -175,26 +165,23 @@ fn macro_a_is_read(rt: HostRuntime) -> Result<(), Fail> {
 
 /// Each field with a number that it may not have, and a length that the header does not ask for.
 #[test]
-fn each_field_is_refused(rt: HostRuntime) -> Result<(), Fail> {
+fn each_field_is_refused(rt: HostRuntime) {
     for change in CHANGES {
         let expected = Told {
             number: change.number,
             call: Call::Read,
             bit: Some(change.bit),
-            edge: if change.number == 3 { Some(0) } else { None },
+            edge: (change.number == 3).then_some(0),
         };
-        let Some(found) = told(&changed(change)) else {
-            return Err(Fail::new(change.why));
-        };
-        assert!(rt; found == expected, "{}", change.why);
+        assert!(rt; told(&changed(change)) == Some(expected), "{}", change.why);
     }
-    Ok(())
 }
 
 /// A file of no bytes, and of each length up to 32 but the right one.
 #[test]
 fn each_wrong_length_is_refused(rt: HostRuntime) {
-    let bytes = LONGER;
+    let mut longer = [0u8; 32];
+    longer[..16].copy_from_slice(&MACRO_A);
     let length = Told {
         number: 1,
         call: Call::Read,
@@ -202,9 +189,6 @@ fn each_wrong_length_is_refused(rt: HostRuntime) {
         edge: None,
     };
     for count in 0..32usize {
-        match told(&bytes[0..count]) {
-            Some(found) => assert!(rt; count != 16 && found == length),
-            None => assert!(rt; count == 16),
-        }
+        assert!(rt; told(&longer[..count]) == (count != 16).then_some(length));
     }
 }
