@@ -1,7 +1,5 @@
 //! What a line of a data file says: the macro that a call is given, and the answer that is expected of the call.
-ghost use Rattle.std.specs.Prelude.{◌<◌, IfOk};
-
-use anyhow::anyhow;
+use anyhow::{Context, anyhow, bail};
 use std::alloc::Global;
 
 /// The data files, each with lines of its own form.
@@ -17,7 +15,7 @@ pub enum DataFile {
 }
 
 /// A refusal by its number, with the spot as far as one is told.
-#[derive(Clone, Copy)]
+#[derive(Clone, Copy, Default)]
 pub struct Refusal {
     pub number: u8,
     pub bit: Option<usize>,
@@ -25,12 +23,8 @@ pub struct Refusal {
     pub edge: Option<usize>,
 }
 
-/// What a call is expected to answer: a refusal, or that it did what it was asked for.
-#[derive(Clone, Copy)]
-pub enum Answer {
-    Refused(Refusal),
-    Done,
-}
+/// What a call is expected to answer: that it did what it was asked for, or a refusal.
+pub type Answer = Result<(), Refusal>;
 
 /// A call that is given a macro: the bytes of the macro's file, and the answer.
 #[derive(Drop)]
@@ -60,48 +54,24 @@ impl DataFile {
     }
 }
 
-/// The number that a hexadecimal digit stands for.
-fn parse_digit(byte: u8) -> anyhow::Result<u8>
-    ensures { IfOk result (λ digit. digit < 16) }
-{
-    match byte {
-        b'0'..=b'9' => Ok(byte - b'0'),
-        b'a'..=b'f' => Ok(byte - b'a' + 10),
-        _ => Err(anyhow!("a digit of the macro is not hexadecimal")),
-    }
-}
-
-/// The bytes that a word spells, two digits for each; `-` stands for none.
+/// The bytes that a word spells in hexadecimal; `-` stands for none.
 fn parse_bytes(heap: Global, word: &str) -> anyhow::Result<Vec<u8>> {
-    let mut bytes = Vec::new(heap);
-    if word == "-" {
-        return Ok(bytes);
-    }
-    for pair in word.as_bytes().chunks(2) {
-        let [high, low] = pair else {
-            return Err(anyhow!("the macro has an odd number of digits"));
-        };
-        bytes.push(parse_digit(*high)? * 16 + parse_digit(*low)?)?;
-    }
-    Ok(bytes)
+    let digits = if word == "-" { "" } else { word };
+    Ok(hex::decode(heap, digits)?)
 }
 
 /// A refusal, from the words after `refused`: its number, and then each part of the spot by its name and its number.
 fn parse_refusal(number: &str, spot: &[&str]) -> anyhow::Result<Refusal> {
     let mut refusal = Refusal {
         number: number.parse::<u8>()?,
-        bit: None,
-        entry: None,
-        edge: None,
+        ..Refusal::default()
     };
     for pair in spot.chunks(2) {
         match pair {
             ["bit", value] => refusal.bit = Some(value.parse::<usize>()?),
             ["entry", value] => refusal.entry = Some(value.parse::<usize>()?),
             ["edge", value] => refusal.edge = Some(value.parse::<usize>()?),
-            _ => return Err(anyhow!(
-                "the refusal's spot is not made of a bit, an entry and an edge"
-            )),
+            _ => bail!("the refusal's spot is not made of a bit, an entry and an edge"),
         }
     }
     Ok(refusal)
@@ -110,9 +80,9 @@ fn parse_refusal(number: &str, spot: &[&str]) -> anyhow::Result<Refusal> {
 /// The answer, from the words after the bar.
 fn parse_answer(words: &[&str]) -> anyhow::Result<Answer> {
     match words {
-        ["refused", number, spot @ ..] => Ok(Answer::Refused(parse_refusal(*number, spot)?)),
-        ["accepted"] | ["loaded"] => Ok(Answer::Done),
-        ["cleared" | "reached" | "open" | "full" | "working", ..] => Ok(Answer::Done),
+        ["refused", number, spot @ ..] => Ok(Err(parse_refusal(*number, spot)?)),
+        ["accepted"] | ["loaded"] => Ok(Ok(())),
+        ["cleared" | "reached" | "open" | "full" | "working", ..] => Ok(Ok(())),
         _ => Err(anyhow!("the answer is none that a call with a macro gives")),
     }
 }
@@ -122,9 +92,7 @@ pub fn parse_line(heap: Global, file: DataFile, text: &str) -> anyhow::Result<Op
     if text.trim().is_empty() {
         return Ok(None);
     }
-    let Some((left, right)) = text.split_once('|') else {
-        return Err(anyhow!("no bar before the answer"));
-    };
+    let (left, right) = text.split_once('|').context("no bar before the answer")?;
     let call: Vec<&str> = left.split_whitespace().collect(heap)?;
     let Some(word) = file.macro_word(call.as_slice())? else {
         return Ok(None);

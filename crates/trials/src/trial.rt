@@ -102,7 +102,7 @@ impl fmt::Display for Deviation {
 impl From<Answer> for Expected {
     /// Refusals 1 to 3 are the macro's own, and 4 and 5 come before it is looked at.
     fn from(answer: Answer) -> Expected {
-        let Answer::Refused(refusal) = answer else {
+        let Err(refusal) = answer else {
             return Expected::Read;
         };
         match refusal.number {
