@@ -6,7 +6,7 @@ use anyhow::anyhow;
 use lines::DataFile;
 use std::fs;
 use tally::Tally;
-use trial::{Expected, Outcome};
+use trial::{Expected, Failure};
 
 mod lines;
 mod tally;
@@ -16,7 +16,7 @@ mod trial;
 fn run_line(
     rt: &HostRuntime,
     file: DataFile,
-    number: usize,
+    number: u64,
     text: &str,
     tally: &mut Tally,
 ) -> anyhow::Result<()> {
@@ -25,40 +25,35 @@ fn run_line(
         return Ok(());
     };
     let expected = Expected::from(line.answer);
-    let outcome = trial::run(heap, line.bytes.as_slice(), expected)?;
-    if let Outcome::Wrong(deviation) = outcome {
-        let name = file.name();
-        println!(rt; "{name} line {number}: expected {expected}, found {deviation}")?;
-    }
+    let outcome = match trial::run(heap, line.bytes.as_slice(), expected) {
+        Ok(agreement) => Ok(agreement),
+        Err(Failure::Deviates(deviation)) => {
+            let name = file.name();
+            println!(rt; "{name} line {number}: expected {expected}, found {deviation}")?;
+            Err(deviation)
+        }
+        Err(Failure::Memory(error)) => return Err(error.into()),
+    };
     tally.count(outcome);
     Ok(())
 }
 
 /// Runs the macros of a file, and prints how many came out in which way.
 fn run_file(rt: &HostRuntime, file: DataFile) -> anyhow::Result<()> {
-    let heap = rt.alloc();
     let name = file.name();
-    let text = match fs::read_to_string(rt, name) {
-        Ok(text) => text,
-        Err(error) => return Err(anyhow!(format!(in heap; "{name}: {error}")?)),
-    };
+    let text = fs::read_to_string(rt, name).map_err(|error| anyhow!("{name}: {error}"))?;
     let mut tally = Tally::default();
-    for (index, line) in text.lines().enumerate() {
-        let number = index.saturating_add(1);
-        if let Err(error) = run_line(rt, file, number, line, &mut tally) {
-            return Err(anyhow!(format!(in heap; "{name} line {number}: {error}")?));
-        }
+    for (number, line) in (1u64..).zip(text.lines()) {
+        run_line(rt, file, number, line, &mut tally).map_err(|error| anyhow!(
+            "{name} line {number}: {error}"
+        ))?;
     }
     println!(rt; "{name} {tally}")?;
     Ok(())
 }
 
-fn run(rt: &HostRuntime) -> anyhow::Result<()> {
-    run_file(rt, DataFile::Bench)?;
-    run_file(rt, DataFile::MachineEnd)?;
-    run_file(rt, DataFile::Sequences)
-}
-
 fn main(rt: HostRuntime) -> anyhow::Result<()> {
-    run(&rt)
+    run_file(&rt, DataFile::Bench)?;
+    run_file(&rt, DataFile::MachineEnd)?;
+    run_file(&rt, DataFile::Sequences)
 }

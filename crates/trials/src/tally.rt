@@ -1,5 +1,5 @@
 //! How many macros came out in which way.
-use crate::trial::Outcome;
+use crate::trial::{Agreement, Deviation};
 use std::fmt;
 
 /// The counts of a file.
@@ -12,20 +12,17 @@ pub struct Tally {
     wrong: u64,
 }
 
-/// Counts one more; the highest number stays.
-fn add_one(count: &mut u64) {
-    *count = count.saturating_add(1);
-}
-
 impl Tally {
-    pub fn count(&mut self, outcome: Outcome) {
-        add_one(&mut self.macros);
-        match outcome {
-            Outcome::Read => add_one(&mut self.read),
-            Outcome::Refused => add_one(&mut self.refused),
-            Outcome::Skipped => add_one(&mut self.skipped),
-            Outcome::Wrong(_) => add_one(&mut self.wrong),
-        }
+    /// Counts a macro. A count at its highest number stays there.
+    pub fn count(&mut self, outcome: Result<Agreement, Deviation>) {
+        let count = match outcome {
+            Ok(Agreement::Read) => &mut self.read,
+            Ok(Agreement::Refused) => &mut self.refused,
+            Ok(Agreement::Skipped) => &mut self.skipped,
+            Err(_) => &mut self.wrong,
+        };
+        *count = count.saturating_add(1);
+        self.macros = self.macros.saturating_add(1);
     }
 }
 

@@ -5,8 +5,8 @@ ghost use Rattle.std.specs.Prelude.{◌≡◌, Ok};
 use crate::lines::Answer;
 use macros::faults::{Call, Told};
 use macros::parts::{Edge, Header};
-use packing::{Macro, pack};
-use reading::{edge_at, read};
+use packing::{Macro, PackRefusal, pack};
+use reading::{ReadRefusal, edge_at, read};
 use std::alloc::{AllocError, Global};
 use std::fmt;
 
@@ -46,13 +46,19 @@ pub enum Deviation {
     },
 }
 
-/// What came of a macro.
+/// How a macro came out as expected.
 #[derive(Clone, Copy)]
-pub enum Outcome {
+pub enum Agreement {
     Read,
     Refused,
     Skipped,
-    Wrong(Deviation),
+}
+
+/// Why there is no agreement: something else was found, or there was no memory for the trial.
+#[derive(Clone, Copy)]
+pub enum Failure {
+    Deviates(Deviation),
+    Memory(AllocError),
 }
 
 /// Writes a refusal with the call that declined.
@@ -118,56 +124,64 @@ impl From<Answer> for Expected {
     }
 }
 
+impl From<Deviation> for Failure {
+    fn from(deviation: Deviation) -> Failure {
+        Failure::Deviates(deviation)
+    }
+}
+
+impl From<Told> for Failure {
+    /// A refusal where none was expected.
+    fn from(told: Told) -> Failure {
+        Failure::Deviates(Deviation::Refused(told))
+    }
+}
+
+impl From<AllocError> for Failure {
+    fn from(error: AllocError) -> Failure {
+        Failure::Memory(error)
+    }
+}
+
 /// The edges in their order, of a file that was read.
 fn edges_of(heap: Global, bytes: &[u8], header: Header) -> Result<Vec<Edge>, AllocError>
     requires { headed bytes.now ≡ Ok header }
 {
-    let mut edges = Vec::new(heap);
-    for number in 0..usize::from(header.edges) {
-        edges.push(edge_at(bytes, header, number))?;
-    }
-    Ok(edges)
+    (0..usize::from(header.edges))
+        .map(|number| edge_at(bytes, header, number))
+        .collect(heap)
 }
 
-/// The first byte in which what was packed differs.
-fn first_difference(packed: &[u8], expected: &[u8]) -> Option<Deviation> {
-    for (number, (found, wanted)) in packed.iter().zip(expected.iter()).enumerate() {
-        if found != wanted {
-            return Some(Deviation::Byte {
-                number,
-                found: *found,
-                expected: *wanted,
-            });
-        }
-    }
-    None
+/// The first byte that packing left other than in the macro's file, or beyond it other than it was.
+fn first_difference(packed: &[u8], file: &[u8]) -> Option<Deviation> {
+    packed
+        .iter()
+        .zip(file.iter().chain(&BEYOND))
+        .enumerate()
+        .find(|(_, (found, expected))| found != expected)
+        .map(|(number, (found, expected))| Deviation::Byte {
+            number,
+            found: *found,
+            expected: *expected,
+        })
 }
 
 /// Packs the macro into memory that is a little longer than its file, and compares all of it.
-fn run_pack(heap: Global, source: Macro, bytes: &[u8]) -> Result<Outcome, AllocError> {
-    let mut out = vec![in heap; FILLER; bytes.len()]?;
-    out.extend_from_slice(&BEYOND)?;
-    let mut expected = Vec::from_slice(heap, bytes)?;
-    expected.extend_from_slice(&BEYOND)?;
-    let count = match pack(source, out.as_mut_slice()) {
-        Ok(count) => count,
-        Err(refusal) => return Ok(Outcome::Wrong(Deviation::Refused(refusal.told()))),
-    };
+fn run_pack(heap: Global, source: Macro, bytes: &[u8]) -> Result<Agreement, Failure> {
+    let mut out = vec![in heap; FILLER; bytes.len() + BEYOND.len()]?;
+    let count = pack(source, out.as_mut_slice()).map_err(PackRefusal::told)?;
     if count != bytes.len() {
-        return Ok(Outcome::Wrong(Deviation::Packed { count }));
+        return Err(Deviation::Packed { count }.into());
     }
-    match first_difference(out.as_slice(), expected.as_slice()) {
-        Some(deviation) => Ok(Outcome::Wrong(deviation)),
-        None => Ok(Outcome::Read),
+    match first_difference(out.as_slice(), bytes) {
+        Some(deviation) => Err(deviation.into()),
+        None => Ok(Agreement::Read),
     }
 }
 
 /// Reads the macro and packs it again.
-fn run_read(heap: Global, bytes: &[u8]) -> Result<Outcome, AllocError> {
-    let header = match read(bytes) {
-        Ok(header) => header,
-        Err(refusal) => return Ok(Outcome::Wrong(Deviation::Refused(refusal.told()))),
-    };
+fn run_read(heap: Global, bytes: &[u8]) -> Result<Agreement, Failure> {
+    let header = read(bytes).map_err(ReadRefusal::told)?;
     let edges = edges_of(heap, bytes, header)?;
     let source = Macro {
         variables: header.variables,
@@ -179,23 +193,20 @@ fn run_read(heap: Global, bytes: &[u8]) -> Result<Outcome, AllocError> {
 }
 
 /// Reads what is to be refused, and compares the number, the call and the spot.
-fn run_refused(bytes: &[u8], expected: Told) -> Outcome {
-    let found = match read(bytes) {
-        Ok(_) => return Outcome::Wrong(Deviation::Read),
-        Err(refusal) => refusal.told(),
-    };
+fn run_refused(bytes: &[u8], expected: Told) -> Result<Agreement, Deviation> {
+    let found = read(bytes).err().ok_or(Deviation::Read)?.told();
     if found == expected {
-        Outcome::Refused
+        Ok(Agreement::Refused)
     } else {
-        Outcome::Wrong(Deviation::Refused(found))
+        Err(Deviation::Refused(found))
     }
 }
 
 /// Runs the calls on the bytes of a macro's file, and compares them with what is expected.
-pub fn run(heap: Global, bytes: &[u8], expected: Expected) -> Result<Outcome, AllocError> {
+pub fn run(heap: Global, bytes: &[u8], expected: Expected) -> Result<Agreement, Failure> {
     match expected {
-        Expected::Refused(told) => Ok(run_refused(bytes, told)),
+        Expected::Refused(told) => Ok(run_refused(bytes, told)?),
         Expected::Read => run_read(heap, bytes),
-        Expected::Nothing => Ok(Outcome::Skipped),
+        Expected::Nothing => Ok(Agreement::Skipped),
     }
 }
