@@ -2,22 +2,33 @@
 
 #![tactic(auto)]
 
-use anyhow::anyhow;
+use anyhow::{Context, anyhow, bail};
+use exact::value::Exact;
+use span::value::Span;
+use std::alloc::Global;
 use std::fs;
-use table::Table;
 
 mod kind;
 mod number;
 mod spelled;
-mod table;
 mod words;
 
 /// Whether the answer to the line's call is the expected one; prints the line and the answer if not.
-fn run_line(rt: &HostRuntime, table: Table, text: &str) -> anyhow::Result<bool> {
-    let Some((call, expected)) = text.split_once(" | ") else {
-        return Err(anyhow!("no bar before the answer"));
+fn run_line<F: Fn(Global, &[&str]) -> anyhow::Result<String>>(
+    rt: &HostRuntime,
+    table: &str,
+    answer: &F,
+    text: &str,
+) -> anyhow::Result<bool>
+    requires { F.IsAlwaysCallable answer.now }
+{
+    let heap = rt.alloc();
+    let (call, expected) = text.split_once(" | ").context("no bar before the answer")?;
+    let words: Vec<&str> = call.split_whitespace().collect(heap)?;
+    let found = match words.as_slice() {
+        [name, call @ ..] if *name == table => answer(heap, call)?,
+        _ => bail!("the line does not begin with the table's name"),
     };
-    let found = table.answer(rt.alloc(), call)?;
     let agrees = found.as_str() == expected;
     if !agrees {
         println!(rt; "{text}, found {found}")?;
@@ -25,34 +36,28 @@ fn run_line(rt: &HostRuntime, table: Table, text: &str) -> anyhow::Result<bool> 
     Ok(agrees)
 }
 
-/// Runs the lines of a table, and counts those that agree.
-fn run_lines(rt: &HostRuntime, table: Table, text: &str) -> anyhow::Result<u64> {
+/// Runs the table of this name from its file, by what answers its calls, and prints how many lines agree.
+fn run_table<F: Fn(Global, &[&str]) -> anyhow::Result<String>>(
+    rt: &HostRuntime,
+    table: &str,
+    answer: F,
+) -> anyhow::Result<()>
+    requires { F.IsAlwaysCallable answer }
+{
+    let file = format!(in rt.alloc(); "{table}.txt")?;
+    let text = fs::read_to_string(rt, file.as_str())?;
     let mut agreed = 0u64;
     for line in text.lines() {
-        match run_line(rt, table, line) {
-            Ok(true) => agreed = agreed.saturating_add(1),
-            Ok(false) => {}
-            Err(error) => return Err(anyhow!(format!(in rt.alloc(); "{line}: {error}")?)),
+        if run_line(rt, table, &answer, line).map_err(|error| anyhow!("{line}: {error}"))? {
+            agreed = agreed.saturating_add(1);
         }
     }
-    Ok(agreed)
-}
-
-/// Runs a table from its file, and prints how many lines agree.
-fn run_table(rt: &HostRuntime, table: Table) -> anyhow::Result<()> {
-    let text = fs::read_to_string(rt, table.file())?;
-    let agreed = run_lines(rt, table, text.as_str())?;
-    let name = table.name();
-    println!(rt; "{name} {agreed} agree")?;
+    println!(rt; "{table} {agreed} agree")?;
     Ok(())
 }
 
-fn run(rt: &HostRuntime) -> anyhow::Result<()> {
-    run_table(rt, Table::Number)?;
-    run_table(rt, Table::Exact)?;
-    run_table(rt, Table::Span)
-}
-
 fn main(rt: HostRuntime) -> anyhow::Result<()> {
-    run(&rt)
+    run_table(&rt, "number", number::answer)?;
+    run_table(&rt, "exact", kind::answer::<Exact>)?;
+    run_table(&rt, "span", kind::answer::<Span>)
 }
