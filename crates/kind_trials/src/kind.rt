@@ -1,9 +1,10 @@
 //! Calls on the values of a kind.
-ghost use Rattle.std.specs.Prelude.{◌+◌, ◌*◌, ◌≤◌, IfOk};
+ghost use Rattle.std.specs.Prelude.{◌+◌, ◌*◌, ◌≤◌, IfOk, OnOk};
 
+use crate::answer::Answer;
+use crate::operator::Operator;
 use crate::spelled::Spelled;
-use crate::words::{Operator, parse_bytes, parse_operator, show_bytes, word_for, yes_or_no};
-use anyhow::anyhow;
+use anyhow::{Context, bail, ensure};
 use kinds::Kind;
 use std::alloc::Global;
 
@@ -12,12 +13,11 @@ const AT: usize = 3;
 
 /// How many bytes a code at `AT` needs; an error if the codes are too wide to be read and written.
 fn code_bytes<K: Kind>() -> anyhow::Result<usize>
-    ensures { IfOk result (λ n. (K.Kind.ops.width ≤ 4096) × (3 + K.Kind.ops.width ≤ 8 * n)) }
+    ensures narrow { OnOk result (K.Kind.ops.width ≤ 4096) }
+    ensures inside { IfOk result (λ n. 3 + K.Kind.ops.width ≤ 8 * n) }
 {
     let width = K::width();
-    if width > 4096 {
-        return Err(anyhow!("the codes are too wide"));
-    }
+    ensure!(width <= 4096, "the codes are too wide");
     Ok((AT + width).div_ceil(8))
 }
 
@@ -26,35 +26,24 @@ fn parse<K: Spelled>(word: &str) -> anyhow::Result<K> {
     if word == "unknown" {
         return Ok(K::unknown());
     }
-    match K::recall(K::parse_value(word)?) {
-        Some(value) => Ok(value),
-        None => Err(anyhow!("the word spells no value")),
-    }
-}
-
-/// The word for a value, or for none.
-fn show<K: Spelled>(heap: Global, value: Option<K>) -> anyhow::Result<String> {
-    match value {
-        Some(value) => K::show(heap, value.keep()),
-        None => word_for(heap, "none"),
-    }
+    K::recall(K::parse_value(word)?).context("the word spells no value")
 }
 
 /// The bytes once the value is written among bytes that all are `filler`.
-fn write<K: Spelled>(heap: Global, word: &str, filler: u8) -> anyhow::Result<String> {
-    let value = parse::<K>(word)?;
+fn write<K: Spelled>(heap: Global, value: K, filler: u8) -> anyhow::Result<String> {
     let mut bytes = vec![in heap; filler; code_bytes::<K>()?]?;
     value.write(bytes.as_mut_slice(), AT);
-    show_bytes(heap, bytes.as_slice())
+    Ok(hex::encode(heap, bytes)?)
 }
 
 /// The value that is read among the bytes.
-fn read<K: Spelled>(heap: Global, word: &str) -> anyhow::Result<String> {
-    let bytes = parse_bytes(heap, word)?;
-    if bytes.len() != code_bytes::<K>()? {
-        return Err(anyhow!("the bytes are not as many as a code needs"));
-    }
-    show(heap, K::read(bytes.as_slice(), AT))
+fn read<K: Spelled>(heap: Global, word: &str) -> anyhow::Result<Option<K>> {
+    let bytes = hex::decode(heap, word)?;
+    ensure!(
+        bytes.len() == code_bytes::<K>()?,
+        "the bytes are not as many as a code needs"
+    );
+    Ok(K::read(bytes.as_slice(), AT))
 }
 
 /// What the operator makes of two values.
@@ -65,40 +54,19 @@ fn operate<K: Spelled>(operator: Operator, left: K, right: K) -> Option<K> {
     }
 }
 
-/// The answer to a call with one argument.
-fn answer_one<K: Spelled>(heap: Global, name: &str, word: &str) -> anyhow::Result<String> {
-    match name {
-        "write" => write::<K>(heap, word, 0x00),
-        "write1" => write::<K>(heap, word, 0xff),
-        "read" => read::<K>(heap, word),
-        "only" => show(heap, Some(K::only(word.parse::<i32>()?))),
-        _ => Err(anyhow!("no call of this name has one argument")),
-    }
-}
-
-/// The answer to a call with two arguments.
-fn answer_two<K: Spelled>(
-    heap: Global,
-    name: &str,
-    first: &str,
-    second: &str,
-) -> anyhow::Result<String> {
-    if name == "recall" {
-        return show(heap, K::recall(K::parse_record(first, second)?));
-    }
-    let left = parse::<K>(first)?;
-    let right = parse::<K>(second)?;
-    if name == "covered" {
-        return yes_or_no(heap, left.covered(right));
-    }
-    show(heap, operate(parse_operator(name)?, left, right))
-}
-
 /// The answer to a call on the kind.
-pub fn answer<K: Spelled>(heap: Global, call: &[&str]) -> anyhow::Result<String> {
-    match call {
-        [name, word] => answer_one::<K>(heap, *name, *word),
-        [name, first, second] => answer_two::<K>(heap, *name, *first, *second),
-        _ => Err(anyhow!("a call on a kind has one argument or two")),
-    }
+pub fn answer<K: Spelled>(heap: Global, call: &[&str]) -> anyhow::Result<Answer<K>> {
+    Ok(match call {
+        ["write", word] => Answer::Digits(write(heap, parse::<K>(*word)?, 0x00)?),
+        ["write1", word] => Answer::Digits(write(heap, parse::<K>(*word)?, 0xff)?),
+        ["read", word] => Answer::Value(read(heap, *word)?),
+        ["only", number] => Answer::Value(Some(K::only(number.parse::<i32>()?))),
+        ["recall", first, second] => Answer::Value(K::recall(K::parse_record(*first, *second)?)),
+        ["covered", left, right] => Answer::Truth(parse::<K>(*left)?.covered(parse(*right)?)),
+        [operator, left, right] => {
+            let operator = operator.parse::<Operator>()?;
+            Answer::Value(operate(operator, parse(*left)?, parse(*right)?))
+        }
+        _ => bail!("no call on a kind is made of these words"),
+    })
 }

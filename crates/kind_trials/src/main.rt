@@ -2,19 +2,21 @@
 
 #![tactic(auto)]
 
+use answer::{Answer, Shown};
 use anyhow::{Context, anyhow, bail};
 use exact::value::Exact;
 use span::value::Span;
 use std::alloc::Global;
 use std::fs;
 
+mod answer;
 mod kind;
 mod number;
+mod operator;
 mod spelled;
-mod words;
 
 /// Whether the answer to the line's call is the expected one; prints the line and the answer if not.
-fn run_line<F: Fn(Global, &[&str]) -> anyhow::Result<String>>(
+fn run_line<T: Shown + Drop, F: Fn(Global, &[&str]) -> anyhow::Result<Answer<T>>>(
     rt: &HostRuntime,
     table: &str,
     answer: &F,
@@ -26,7 +28,7 @@ fn run_line<F: Fn(Global, &[&str]) -> anyhow::Result<String>>(
     let (call, expected) = text.split_once(" | ").context("no bar before the answer")?;
     let words: Vec<&str> = call.split_whitespace().collect(heap)?;
     let found = match words.as_slice() {
-        [name, call @ ..] if *name == table => answer(heap, call)?,
+        [name, call @ ..] if *name == table => answer(heap, call)?.to_string(heap)?,
         _ => bail!("the line does not begin with the table's name"),
     };
     let agrees = found.as_str() == expected;
@@ -37,7 +39,7 @@ fn run_line<F: Fn(Global, &[&str]) -> anyhow::Result<String>>(
 }
 
 /// Runs the table of this name from its file, by what answers its calls, and prints how many lines agree.
-fn run_table<F: Fn(Global, &[&str]) -> anyhow::Result<String>>(
+fn run_table<T: Shown + Drop, F: Fn(Global, &[&str]) -> anyhow::Result<Answer<T>>>(
     rt: &HostRuntime,
     table: &str,
     answer: F,
@@ -57,7 +59,11 @@ fn run_table<F: Fn(Global, &[&str]) -> anyhow::Result<String>>(
 }
 
 fn main(rt: HostRuntime) -> anyhow::Result<()> {
-    run_table(&rt, "number", number::answer)?;
+    run_table(
+        &rt,
+        "number",
+        |_: Global, call: &[&str]| number::answer(call),
+    )?;
     run_table(&rt, "exact", kind::answer::<Exact>)?;
     run_table(&rt, "span", kind::answer::<Span>)
 }
