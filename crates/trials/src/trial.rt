@@ -63,11 +63,11 @@ pub enum Failure {
 
 /// Writes a refusal with the call that declined.
 fn show<W: fmt::Write>(told: &Told, f: &mut fmt::Formatter<W>) -> fmt::Result {
-    let number = told.number;
-    match told.call {
-        Call::Read => write!(f, "read refused {number}")?,
-        Call::Pack => write!(f, "pack refused {number}")?,
-    }
+    let call = match told.call {
+        Call::Read => "read",
+        Call::Pack => "pack",
+    };
+    write!(f, "{call} refused {}", told.number)?;
     if let Some(bit) = told.bit {
         write!(f, " bit {bit}")?;
     }
