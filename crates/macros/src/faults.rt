@@ -6,7 +6,7 @@ ghost use Rattle.std.specs.Prelude.{◌≡◌};
 use crate::layout::Field;
 
 /// A field whose number is not one that the layout allows there: which field, its first bit, and the number.
-#[derive(Clone, Copy)]
+#[derive(Clone, Copy, Debug, PartialEq, Eq)]
 pub struct FieldFault {
     pub field: Field,
     pub bit: usize,
@@ -14,14 +14,14 @@ pub struct FieldFault {
 }
 
 /// A field's fault and the edge that it is in.
-#[derive(Clone, Copy)]
+#[derive(Clone, Copy, Debug, PartialEq, Eq)]
 pub struct EdgeFault {
     pub field: FieldFault,
     pub edge: usize,
 }
 
 /// A file with a wrong number of bytes. It stands at bit 0, since no field is at fault.
-#[derive(Clone, Copy)]
+#[derive(Clone, Copy, Debug, PartialEq, Eq)]
 pub struct LengthFault {
     pub bit: usize,
     pub found: usize,
@@ -29,7 +29,7 @@ pub struct LengthFault {
 }
 
 /// What is wrong with a macro: refusals 1, 2 and 3.
-#[derive(Clone, Copy)]
+#[derive(Clone, Copy, Debug, PartialEq, Eq)]
 pub enum MacroFault {
     Length(LengthFault),
     Header(FieldFault),
@@ -37,14 +37,14 @@ pub enum MacroFault {
 }
 
 /// The calls that may decline.
-#[derive(Clone, Copy, PartialEq, Eq)]
+#[derive(Clone, Copy, Debug, PartialEq, Eq)]
 pub enum Call {
     Read,
     Pack,
 }
 
 /// A refusal by its number, with the call that declined and the spot, as far as the fault holds one.
-#[derive(Clone, Copy, PartialEq, Eq)]
+#[derive(Clone, Copy, Debug, PartialEq, Eq)]
 pub struct Told {
     pub number: u8,
     pub call: Call,

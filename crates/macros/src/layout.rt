@@ -1,9 +1,9 @@
 //! Where the fields of a packed macro lie.
-ghost use Rattle.macros.specs.Layout.{offset, width};
-ghost use Rattle.std.specs.Prelude.{◌≡◌};
+ghost use Rattle.macros.specs.Layout.{edge_bit, offset, width};
+ghost use Rattle.std.specs.Prelude.{◌≡◌, ◌+◌, ◌^◌, ◌<◌};
 
 /// A field of the file: five of the header, and nine of each edge.
-#[derive(Clone, Copy)]
+#[derive(Clone, Copy, Debug, PartialEq, Eq)]
 pub enum Field {
     Variables,
     Places,
@@ -55,5 +55,38 @@ impl Field {
             Field::Right => 58,
             Field::EdgeFilling => 90,
         }
+    }
+}
+
+/// Where the header or an edge begins: its first bit in the file. Every field of either can be counted from there.
+#[derive(Clone, Copy, Debug, PartialEq, Eq)]
+pub struct Start {
+    pub bit: usize,
+    ghost countable: { bit + 96 < 2 ^ 64 },
+}
+
+impl Start {
+    /// The header begins the file.
+    pub fn of_header() -> Start
+        ensures { result.bit ≡ 0 }
+    {
+        Start { bit: 0 }
+    }
+
+    /// The edges lie one after the other behind the header.
+    pub fn of_edge(number: usize) -> Start
+        requires { edge_bit number + 96 < 2 ^ 64 }
+        ensures { result.bit ≡ edge_bit number }
+    {
+        Start {
+            bit: 32 + 96 * number,
+        }
+    }
+
+    /// The first bit of a field of the header or edge that begins here.
+    pub fn bit_of(self, field: Field) -> usize
+        ensures { result ≡ self.bit + offset field }
+    {
+        self.bit + field.offset()
     }
 }

@@ -3,5 +3,6 @@
 #![tactic(auto)]
 
 pub mod faults;
+pub mod form;
 pub mod layout;
 pub mod parts;
