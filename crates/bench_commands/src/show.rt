@@ -2,7 +2,7 @@
 ghost use Rattle.bench_commands.specs.Failures.{Shown};
 
 use crate::failure::Failure;
-use reading::read;
+use reading::file::MacroFile;
 use std::alloc::Global;
 use std::fs;
 use texts::lines::macro_lines;
@@ -11,8 +11,8 @@ use texts::lines::macro_lines;
 pub fn show_lines(heap: Global, bytes: &[u8]) -> Result<String, Failure>
     ensures { Shown result bytes.now }
 {
-    let header = read(bytes)?;
-    let lines = macro_lines(heap, bytes, header)?;
+    let file = MacroFile::open(bytes)?;
+    let lines = macro_lines(heap, file)?;
     Ok(lines)
 }
 

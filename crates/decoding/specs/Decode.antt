@@ -6,12 +6,12 @@ use Rattle.std.proofs.Common.{to_z}
 use Rattle.macros.specs.declared.faults.FieldFault.{FieldFault}
 use Rattle.decoding.specs.declared.fields.EdgeFields.{EdgeFields}
 use Rattle.decoding.specs.declared.fields.HeaderFields.{HeaderFields}
+use Rattle.macros.specs.declared.form.Form.{Form as EdgeForm}
+use Rattle.macros.specs.declared.form.Form.TheVariants.{Set as set_form, Compute as compute_form, Read as read_form, Test as test_form}
 use Rattle.macros.specs.declared.layout.Field.{Field}
 use Rattle.macros.specs.declared.layout.Field.TheVariants.{Variables, Places, Guarded, Edges, HeaderFilling, From, To, Form, Target, LeftMark, Left, RightMark, Right, EdgeFilling}
 use Rattle.macros.specs.declared.parts.Arithmetic.{Arithmetic}
-use Rattle.macros.specs.declared.parts.Arithmetic.TheVariants.{Add, Subtract, Multiply, Remainder}
 use Rattle.macros.specs.declared.parts.Comparison.{Comparison}
-use Rattle.macros.specs.declared.parts.Comparison.TheVariants.{Equal, NotEqual, Less, AtMost, Greater, AtLeast}
 use Rattle.macros.specs.declared.parts.Edge.{Edge}
 use Rattle.macros.specs.declared.parts.Header.{Header}
 use Rattle.macros.specs.declared.parts.Operand.{Operand}
@@ -19,6 +19,7 @@ use Rattle.macros.specs.declared.parts.Operand.TheVariants.{Constant, Variable}
 use Rattle.macros.specs.declared.parts.Operation.{Operation}
 use Rattle.macros.specs.declared.parts.Operation.TheVariants.{Set, Compute, Read, Test}
 use Rattle.macros.specs.Faults.{bind, same}
+use Rattle.macros.specs.Forms.{form_of}
 use Rattle.macros.specs.Layout.{field_at, offset}
 
 -- the numbers in the header's fields
@@ -79,15 +80,9 @@ abbrev pub decode_operand : ℕ → ℕ → Field → ℕ → ℕ → Result Ope
 decode_operand n at f mark number =
     cond (mark == 0) (Ok (Constant (to_z w32 number))) (bind same (below at f number n) (λ v. Ok (Variable v)))
 
--- the arithmetic of forms 1 to 4
-abbrev pub arithmetic_of : ℕ → Arithmetic
-arithmetic_of form = cond (form == 1) Add (cond (form == 2) Subtract (cond (form == 3) Multiply Remainder))
-
--- the comparison of forms 6 to 11
-abbrev pub comparison_of : ℕ → Comparison
-comparison_of form =
-    cond (form == 6) Equal (cond (form == 7) NotEqual (cond (form == 8) Less
-    (cond (form == 9) AtMost (cond (form == 10) Greater AtLeast))))
+-- a number that has to be that of a form
+abbrev pub form_at : ℕ → ℕ → Result EdgeForm FieldFault
+form_at at number = bind (λ e. wrong at Form number) (form_of number) (λ f. Ok f)
 
 -- form 0: target := left; right and its mark are 0
 abbrev pub decode_set : ℕ → ℕ → EdgeFields → Result Operation FieldFault
@@ -98,13 +93,13 @@ decode_set n at x =
     bind same (zeroed at Right x.right) (λ _.
     Ok (Set t l)))))
 
--- forms 1 to 4: target := left and right, computed
-abbrev pub decode_compute : ℕ → ℕ → EdgeFields → Result Operation FieldFault
-decode_compute n at x =
+-- forms 1 to 4: target := left and right, computed by this arithmetic
+abbrev pub decode_compute : ℕ → ℕ → Arithmetic → EdgeFields → Result Operation FieldFault
+decode_compute n at a x =
     bind same (below at Target x.target n) (λ t.
     bind same (decode_operand n at Left x.left_mark x.left) (λ l.
     bind same (decode_operand n at Right x.right_mark x.right) (λ r.
-    Ok (Compute (arithmetic_of x.form) t l r))))
+    Ok (Compute a t l r))))
 
 -- form 5: read target; both operands and their marks are 0
 abbrev pub decode_read : ℕ → ℕ → EdgeFields → Result Operation FieldFault
@@ -117,26 +112,26 @@ decode_read n at x =
     Ok (Read t))))))
 
 -- forms 6 to 11: pass if left and right compare so; target is 0
-abbrev pub decode_test : ℕ → ℕ → EdgeFields → Result Operation FieldFault
-decode_test n at x =
+abbrev pub decode_test : ℕ → ℕ → Comparison → EdgeFields → Result Operation FieldFault
+decode_test n at c x =
     bind same (zeroed at Target x.target) (λ _.
     bind same (decode_operand n at Left x.left_mark x.left) (λ l.
     bind same (decode_operand n at Right x.right_mark x.right) (λ r.
-    Ok (Test (comparison_of x.form) l r))))
+    Ok (Test c l r))))
 
--- what an edge of a form below 12 does
-abbrev pub decode_operation : ℕ → ℕ → EdgeFields → Result Operation FieldFault
-decode_operation n at x =
-    cond (x.form == 0) (decode_set n at x)
-    (cond (nat_lt x.form 5) (decode_compute n at x)
-    (cond (x.form == 5) (decode_read n at x) (decode_test n at x)))
+-- what an edge of this form does
+abbrev pub decode_operation : ℕ → ℕ → EdgeForm → EdgeFields → Result Operation FieldFault
+decode_operation n at set_form x = decode_set n at x
+decode_operation n at (compute_form a) x = decode_compute n at a x
+decode_operation n at read_form x = decode_read n at x
+decode_operation n at (test_form c) x = decode_test n at c x
 
 -- an edge, where there are n variables and p places
 abbrev pub decode_edge : ℕ → ℕ → ℕ → EdgeFields → Result Edge FieldFault
 decode_edge n p at x =
     bind same (below at From x.from p) (λ from.
     bind same (below at To x.to p) (λ to.
-    bind same (below at Form x.form 12) (λ _.
-    bind same (decode_operation n at x) (λ o.
+    bind same (form_at at x.form) (λ f.
+    bind same (decode_operation n at f x) (λ o.
     bind same (zeroed at EdgeFilling x.filling) (λ _.
     Ok (record { from = from; to = to; operation = o }))))))

@@ -1,13 +1,13 @@
 //! The numbers of the file, as they lie in its fields and before they mean anything.
-ghost use Rattle.std.specs.Prelude.{◌≡◌, ◌+◌, ◌*◌, ◌^◌, ◌<◌, ◌≤◌, length};
+ghost use Rattle.std.specs.Prelude.{◌≡◌, ◌+◌, ◌*◌, ◌≤◌, length};
 ghost use Rattle.decoding.specs.Decode.{edge_fields_at, header_fields_at};
 ghost use Rattle.macros.specs.Layout.{field_at, offset, width};
 
 use bits::read_field;
-use macros::layout::Field;
+use macros::layout::{Field, Start};
 
 /// The numbers in the fields of a header.
-#[derive(Clone, Copy)]
+#[derive(Clone, Copy, Debug, PartialEq, Eq)]
 pub struct HeaderFields {
     pub variables: u32,
     pub places: u32,
@@ -17,7 +17,7 @@ pub struct HeaderFields {
 }
 
 /// The numbers in the fields of an edge.
-#[derive(Clone, Copy)]
+#[derive(Clone, Copy, Debug, PartialEq, Eq)]
 pub struct EdgeFields {
     pub from: u32,
     pub to: u32,
@@ -30,41 +30,42 @@ pub struct EdgeFields {
     pub filling: u32,
 }
 
-/// The number in a field of the header or edge that begins at bit `at`.
-fn read_at(bytes: &[u8], at: usize, field: Field) -> u32
-    requires { (at + offset field + width field ≤ 8 * length bytes.now) × (at + 96 < 2 ^ 64) }
-    ensures { result ≡ field_at bytes.now at field }
+/// The number in a field of the header or edge that begins at `start`.
+fn read_at(bytes: &[u8], start: Start, field: Field) -> u32
+    requires { start.bit + offset field + width field ≤ 8 * length bytes.now }
+    ensures { result ≡ field_at bytes.now start.bit field }
 {
-    read_field(bytes, at + field.offset(), field.width())
+    read_field(bytes, start.bit_of(field), field.width())
 }
 
 pub fn read_header_fields(bytes: &[u8]) -> HeaderFields
     requires { 4 ≤ length bytes.now }
     ensures { result ≡ header_fields_at bytes.now }
 {
+    let start = Start::of_header();
     HeaderFields {
-        variables: read_at(bytes, 0, Field::Variables),
-        places: read_at(bytes, 0, Field::Places),
-        guarded: read_at(bytes, 0, Field::Guarded),
-        edges: read_at(bytes, 0, Field::Edges),
-        filling: read_at(bytes, 0, Field::HeaderFilling),
+        variables: read_at(bytes, start, Field::Variables),
+        places: read_at(bytes, start, Field::Places),
+        guarded: read_at(bytes, start, Field::Guarded),
+        edges: read_at(bytes, start, Field::Edges),
+        filling: read_at(bytes, start, Field::HeaderFilling),
     }
 }
 
-/// The fields of the edge that begins at bit `at`.
-pub fn read_edge_fields(bytes: &[u8], at: usize) -> EdgeFields
-    requires { (at + 96 ≤ 8 * length bytes.now) × (at + 96 < 2 ^ 64) }
-    ensures { result ≡ edge_fields_at bytes.now at }
+/// The fields of the edge that begins at `start`.
+pub fn read_edge_fields(bytes: &[u8], start: Start) -> EdgeFields
+    requires { start.bit + 96 ≤ 8 * length bytes.now }
+    ensures { result ≡ edge_fields_at bytes.now start.bit }
 {
     EdgeFields {
-        from: read_at(bytes, at, Field::From),
-        to: read_at(bytes, at, Field::To),
-        form: read_at(bytes, at, Field::Form),
-        target: read_at(bytes, at, Field::Target),
-        left_mark: read_at(bytes, at, Field::LeftMark),
-        left: read_at(bytes, at, Field::Left),
-        right_mark: read_at(bytes, at, Field::RightMark),
-        right: read_at(bytes, at, Field::Right),
-        filling: read_at(bytes, at, Field::EdgeFilling),
+        from: read_at(bytes, start, Field::From),
+        to: read_at(bytes, start, Field::To),
+        form: read_at(bytes, start, Field::Form),
+        target: read_at(bytes, start, Field::Target),
+        left_mark: read_at(bytes, start, Field::LeftMark),
+        left: read_at(bytes, start, Field::Left),
+        right_mark: read_at(bytes, start, Field::RightMark),
+        right: read_at(bytes, start, Field::Right),
+        filling: read_at(bytes, start, Field::EdgeFilling),
     }
 }

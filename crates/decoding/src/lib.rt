@@ -5,56 +5,74 @@
 
 pub mod fields;
 
-ghost use Rattle.std.specs.Prelude.{◌≡◌, ◌+◌, ◌^◌, ◌<◌};
-ghost use Rattle.decoding.specs.Decode.{arithmetic_of, below as is_below, comparison_of, decode_compute, decode_edge, decode_header, decode_operand, decode_operation, decode_read, decode_set, decode_test, within as is_within, wrong as is_wrong, zeroed as is_zeroed};
+ghost use Rattle.std.specs.Prelude.{◌≡◌};
+ghost use Rattle.decoding.specs.Decode.{below as is_below, decode_compute, decode_edge, decode_header, decode_operand, decode_operation, decode_read, decode_set, decode_test, form_at, within as is_within, wrong, zeroed as is_zeroed};
+ghost use Rattle.macros.specs.declared.layout.Field.TheVariants.{From as from_field, To as to_field, Target as target_field, Left as left_field, Right as right_field};
 
 use fields::{EdgeFields, HeaderFields};
 use macros::faults::FieldFault;
-use macros::layout::Field;
+use macros::form::Form;
+use macros::layout::{Field, Start};
 use macros::parts::{Arithmetic, Comparison, Edge, Header, Operand, Operation};
 
-/// The fault of a field, of the header or edge that begins at bit `at`.
-fn wrong(at: usize, field: Field, found: u32) -> FieldFault
-    requires { at + 96 < 2 ^ 64 }
-    ensures { result ≡ is_wrong at field found }
-{
-    FieldFault {
-        field,
-        bit: at + field.offset(),
-        found,
-    }
+/// The number that was found in a field of the header or edge that begins at `start`.
+#[derive(Clone, Copy)]
+struct Found {
+    start: Start,
+    field: Field,
+    number: u32,
 }
 
-fn below(at: usize, field: Field, number: u32, limit: u32) -> Result<u32, FieldFault>
-    requires { at + 96 < 2 ^ 64 }
-    ensures { result ≡ is_below at field number limit }
-{
-    if number < limit {
-        Ok(number)
-    } else {
-        Err(wrong(at, field, number))
+impl Found {
+    fn fault(self) -> FieldFault
+        ensures { result ≡ wrong self.start.bit self.field self.number }
+    {
+        FieldFault {
+            field: self.field,
+            bit: self.start.bit_of(self.field),
+            found: self.number,
+        }
     }
-}
 
-fn within(at: usize, field: Field, number: u32, least: u32, most: u32) -> Result<u32, FieldFault>
-    requires { at + 96 < 2 ^ 64 }
-    ensures { result ≡ is_within at field number least most }
-{
-    if least <= number && number <= most {
-        Ok(number)
-    } else {
-        Err(wrong(at, field, number))
+    fn below(self, limit: u32) -> Result<u32, FieldFault>
+        ensures { result ≡ is_below self.start.bit self.field self.number limit }
+    {
+        if self.number < limit {
+            Ok(self.number)
+        } else {
+            Err(self.fault())
+        }
     }
-}
 
-fn zeroed(at: usize, field: Field, number: u32) -> Result<(), FieldFault>
-    requires { at + 96 < 2 ^ 64 }
-    ensures { result ≡ is_zeroed at field number }
-{
-    if number == 0 {
-        Ok(())
-    } else {
-        Err(wrong(at, field, number))
+    fn within(self, least: u32, most: u32) -> Result<u32, FieldFault>
+        ensures { result ≡ is_within self.start.bit self.field self.number least most }
+    {
+        if least <= self.number && self.number <= most {
+            Ok(self.number)
+        } else {
+            Err(self.fault())
+        }
+    }
+
+    fn zeroed(self) -> Result<(), FieldFault>
+        ensures { result ≡ is_zeroed self.start.bit self.field self.number }
+    {
+        if self.number == 0 {
+            Ok(())
+        } else {
+            Err(self.fault())
+        }
+    }
+
+    /// The operand that the number means under this mark.
+    fn operand(self, mark: u32, variables: u8) -> Result<Operand, FieldFault>
+        ensures { result ≡ decode_operand variables self.start.bit self.field mark self.number }
+    {
+        if mark == 0 {
+            return Ok(Operand::Constant(self.number.cast_signed()));
+        }
+        let variable = self.below(u32::from(variables))?;
+        Ok(Operand::Variable(variable as u8))
     }
 }
 
@@ -62,11 +80,17 @@ fn zeroed(at: usize, field: Field, number: u32) -> Result<(), FieldFault>
 pub fn decode_header(fields: HeaderFields) -> Result<Header, FieldFault>
     ensures { result ≡ decode_header fields }
 {
-    let variables = within(0, Field::Variables, fields.variables, 1, 15)?;
-    let places = within(0, Field::Places, fields.places, 1, 255)?;
-    let guarded = below(0, Field::Guarded, fields.guarded, places)?;
-    let edges = below(0, Field::Edges, fields.edges, 512)?;
-    zeroed(0, Field::HeaderFilling, fields.filling)?;
+    let start = Start::of_header();
+    let found = |field: Field, number: u32| Found {
+        start,
+        field,
+        number,
+    };
+    let variables = found(Field::Variables, fields.variables).within(1, 15)?;
+    let places = found(Field::Places, fields.places).within(1, 255)?;
+    let guarded = found(Field::Guarded, fields.guarded).below(places)?;
+    let edges = found(Field::Edges, fields.edges).below(512)?;
+    found(Field::HeaderFilling, fields.filling).zeroed()?;
     Ok(Header {
         variables: variables as u8,
         places: places as u8,
@@ -75,134 +99,151 @@ pub fn decode_header(fields: HeaderFields) -> Result<Header, FieldFault>
     })
 }
 
-fn decode_operand(
-    variables: u8,
-    at: usize,
-    field: Field,
-    mark: u32,
-    number: u32,
-) -> Result<Operand, FieldFault>
-    requires { at + 96 < 2 ^ 64 }
-    ensures { result ≡ decode_operand variables at field mark number }
-{
-    if mark == 0 {
-        return Ok(Operand::Constant(number.cast_signed()));
-    }
-    let variable = below(at, field, number, u32::from(variables))?;
-    Ok(Operand::Variable(variable as u8))
-}
-
-fn decode_set(variables: u8, at: usize, fields: EdgeFields) -> Result<Operation, FieldFault>
-    requires { at + 96 < 2 ^ 64 }
-    ensures { result ≡ decode_set variables at fields }
-{
-    let target = below(at, Field::Target, fields.target, u32::from(variables))?;
-    let value = decode_operand(variables, at, Field::Left, fields.left_mark, fields.left)?;
-    zeroed(at, Field::RightMark, fields.right_mark)?;
-    zeroed(at, Field::Right, fields.right)?;
-    Ok(Operation::Set {
-        target: target as u8,
-        value,
-    })
-}
-
-fn arithmetic_of(form: u32) -> Arithmetic
-    ensures { result ≡ arithmetic_of form }
-{
-    match form {
-        1 => Arithmetic::Add,
-        2 => Arithmetic::Subtract,
-        3 => Arithmetic::Multiply,
-        _ => Arithmetic::Remainder,
-    }
-}
-
-fn decode_compute(variables: u8, at: usize, fields: EdgeFields) -> Result<Operation, FieldFault>
-    requires { at + 96 < 2 ^ 64 }
-    ensures { result ≡ decode_compute variables at fields }
-{
-    let target = below(at, Field::Target, fields.target, u32::from(variables))?;
-    let left = decode_operand(variables, at, Field::Left, fields.left_mark, fields.left)?;
-    let right = decode_operand(variables, at, Field::Right, fields.right_mark, fields.right)?;
-    Ok(Operation::Compute {
-        arithmetic: arithmetic_of(fields.form),
-        target: target as u8,
-        left,
-        right,
-    })
-}
-
-fn decode_read(variables: u8, at: usize, fields: EdgeFields) -> Result<Operation, FieldFault>
-    requires { at + 96 < 2 ^ 64 }
-    ensures { result ≡ decode_read variables at fields }
-{
-    let target = below(at, Field::Target, fields.target, u32::from(variables))?;
-    zeroed(at, Field::LeftMark, fields.left_mark)?;
-    zeroed(at, Field::Left, fields.left)?;
-    zeroed(at, Field::RightMark, fields.right_mark)?;
-    zeroed(at, Field::Right, fields.right)?;
-    Ok(Operation::Read {
-        target: target as u8,
-    })
-}
-
-fn comparison_of(form: u32) -> Comparison
-    ensures { result ≡ comparison_of form }
-{
-    match form {
-        6 => Comparison::Equal,
-        7 => Comparison::NotEqual,
-        8 => Comparison::Less,
-        9 => Comparison::AtMost,
-        10 => Comparison::Greater,
-        _ => Comparison::AtLeast,
-    }
-}
-
-fn decode_test(variables: u8, at: usize, fields: EdgeFields) -> Result<Operation, FieldFault>
-    requires { at + 96 < 2 ^ 64 }
-    ensures { result ≡ decode_test variables at fields }
-{
-    zeroed(at, Field::Target, fields.target)?;
-    let left = decode_operand(variables, at, Field::Left, fields.left_mark, fields.left)?;
-    let right = decode_operand(variables, at, Field::Right, fields.right_mark, fields.right)?;
-    Ok(Operation::Test {
-        comparison: comparison_of(fields.form),
-        left,
-        right,
-    })
-}
-
-fn decode_operation(variables: u8, at: usize, fields: EdgeFields) -> Result<Operation, FieldFault>
-    requires { at + 96 < 2 ^ 64 }
-    ensures { result ≡ decode_operation variables at fields }
-{
-    match fields.form {
-        0 => decode_set(variables, at, fields),
-        1..=4 => decode_compute(variables, at, fields),
-        5 => decode_read(variables, at, fields),
-        _ => decode_test(variables, at, fields),
-    }
-}
-
-/// The edge that these numbers mean, where it begins at bit `at` of a macro with so many variables and places.
-pub fn decode_edge(
-    variables: u8,
-    places: u8,
-    at: usize,
+/// The numbers of an edge, where it begins, and the header of its macro.
+#[derive(Clone, Copy)]
+struct EdgeNumbers {
+    header: Header,
+    start: Start,
     fields: EdgeFields,
-) -> Result<Edge, FieldFault>
-    requires { at + 96 < 2 ^ 64 }
-    ensures { result ≡ decode_edge variables places at fields }
+}
+
+impl EdgeNumbers {
+    fn found(self, field: Field, number: u32) -> Found
+        ensures start { result.start ≡ self.start }
+        ensures field { result.field ≡ field }
+        ensures number { result.number ≡ number }
+    {
+        Found {
+            start: self.start,
+            field,
+            number,
+        }
+    }
+
+    fn place(self, field: Field, number: u32) -> Result<u8, FieldFault>
+        ensures { result ≡ is_below self.start.bit field number self.header.places }
+    {
+        let place = self
+            .found(field, number)
+            .below(u32::from(self.header.places))?;
+        Ok(place as u8)
+    }
+
+    fn form(self) -> Result<Form, FieldFault>
+        ensures { result ≡ form_at self.start.bit self.fields.form }
+    {
+        let found = self.found(Field::Form, self.fields.form);
+        Form::try_from(found.number).map_err(|_| found.fault())
+    }
+
+    fn target(self) -> Result<u8, FieldFault>
+        ensures { result ≡ is_below self.start.bit target_field self.fields.target self.header.variables }
+    {
+        let found = self.found(Field::Target, self.fields.target);
+        let target = found.below(u32::from(self.header.variables))?;
+        Ok(target as u8)
+    }
+
+    fn left(self) -> Result<Operand, FieldFault>
+        ensures { result ≡ decode_operand self.header.variables self.start.bit left_field self.fields.left_mark self.fields.left }
+    {
+        let found = self.found(Field::Left, self.fields.left);
+        found.operand(self.fields.left_mark, self.header.variables)
+    }
+
+    fn right(self) -> Result<Operand, FieldFault>
+        ensures { result ≡ decode_operand self.header.variables self.start.bit right_field self.fields.right_mark self.fields.right }
+    {
+        let found = self.found(Field::Right, self.fields.right);
+        found.operand(self.fields.right_mark, self.header.variables)
+    }
+
+    fn set(self) -> Result<Operation, FieldFault>
+        ensures { result ≡ decode_set self.header.variables self.start.bit self.fields }
+    {
+        let target = self.target()?;
+        let value = self.left()?;
+        self.found(Field::RightMark, self.fields.right_mark)
+            .zeroed()?;
+        self.found(Field::Right, self.fields.right).zeroed()?;
+        Ok(Operation::Set { target, value })
+    }
+
+    fn compute(self, arithmetic: Arithmetic) -> Result<Operation, FieldFault>
+        ensures { result ≡ decode_compute self.header.variables self.start.bit arithmetic self.fields }
+    {
+        let target = self.target()?;
+        let left = self.left()?;
+        let right = self.right()?;
+        Ok(Operation::Compute {
+            arithmetic,
+            target,
+            left,
+            right,
+        })
+    }
+
+    fn read(self) -> Result<Operation, FieldFault>
+        ensures { result ≡ decode_read self.header.variables self.start.bit self.fields }
+    {
+        let target = self.target()?;
+        self.found(Field::LeftMark, self.fields.left_mark).zeroed()?;
+        self.found(Field::Left, self.fields.left).zeroed()?;
+        self.found(Field::RightMark, self.fields.right_mark)
+            .zeroed()?;
+        self.found(Field::Right, self.fields.right).zeroed()?;
+        Ok(Operation::Read { target })
+    }
+
+    fn test(self, comparison: Comparison) -> Result<Operation, FieldFault>
+        ensures { result ≡ decode_test self.header.variables self.start.bit comparison self.fields }
+    {
+        self.found(Field::Target, self.fields.target).zeroed()?;
+        let left = self.left()?;
+        let right = self.right()?;
+        Ok(Operation::Test {
+            comparison,
+            left,
+            right,
+        })
+    }
+
+    fn operation(self, form: Form) -> Result<Operation, FieldFault>
+        ensures { result ≡ decode_operation self.header.variables self.start.bit form self.fields }
+    {
+        match form {
+            Form::Set => self.set(),
+            Form::Compute(arithmetic) => self.compute(arithmetic),
+            Form::Read => self.read(),
+            Form::Test(comparison) => self.test(comparison),
+        }
+    }
+
+    fn edge(self) -> Result<Edge, FieldFault>
+        ensures { result ≡ decode_edge self.header.variables self.header.places self.start.bit self.fields }
+    {
+        let from = self.place(Field::From, self.fields.from)?;
+        let to = self.place(Field::To, self.fields.to)?;
+        let form = self.form()?;
+        let operation = self.operation(form)?;
+        self.found(Field::EdgeFilling, self.fields.filling)
+            .zeroed()?;
+        Ok(Edge {
+            from,
+            to,
+            operation,
+        })
+    }
+}
+
+/// The edge that these numbers mean, where it begins at `start` in a macro with this header.
+pub fn decode_edge(header: Header, start: Start, fields: EdgeFields) -> Result<Edge, FieldFault>
+    ensures { result ≡ decode_edge header.variables header.places start.bit fields }
 {
-    let from = below(at, Field::From, fields.from, u32::from(places))?;
-    let to = below(at, Field::To, fields.to, u32::from(places))?;
-    below(at, Field::Form, fields.form, 12)?;
-    let operation = decode_operation(variables, at, fields)?;
-    zeroed(at, Field::EdgeFilling, fields.filling)?;
-    Ok(Edge {
-        from: from as u8,
-        to: to as u8,
-        operation,
-    })
+    let numbers = EdgeNumbers {
+        header,
+        start,
+        fields,
+    };
+    numbers.edge()
 }

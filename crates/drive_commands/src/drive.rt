@@ -1,18 +1,17 @@
 //! Drives a path through the macro in a file.
-ghost use Rattle.drive_commands.specs.Edges.{Edges};
-ghost use Rattle.reading.specs.Reading.{headed};
-ghost use Rattle.std.specs.Prelude.{◌≡◌, IfOk, Ok};
+ghost use Rattle.reading.specs.Reading.{edges_in};
+ghost use Rattle.std.specs.Prelude.{◌≡◌, IfOk};
 
 use crate::failure::Failure;
 use crate::files::file_bytes;
 use command_words::command::RunOptions;
 use command_words::misuse::Misuse;
 use drive_texts::lines::drive_lines;
-use macros::parts::{Edge, Header, Macro};
-use reading::{edge_at, read};
+use macros::parts::Edge;
+use reading::file::MacroFile;
 use runs::drives::drive;
 use runs::halts::DriveHalt;
-use std::alloc::Global;
+use std::alloc::{AllocError, Global};
 use std::str::FromStr;
 
 /// The numbers in a word, with commas between them; an empty word has none.
@@ -20,29 +19,19 @@ fn list<T: FromStr + Drop>(heap: Global, word: &str, misuse: Misuse) -> Result<V
 where
     <T as FromStr>::Err: Drop,
 {
-    let mut numbers = Vec::new(heap);
     if word.is_empty() {
-        return Ok(numbers);
+        return Ok(Vec::new(heap));
     }
-    for part in word.split(',') {
-        match part.parse::<T>() {
-            Ok(number) => numbers.push(number)?,
-            Err(_) => return Err(misuse.into()),
-        }
-    }
-    Ok(numbers)
+    word.split(',')
+        .map(|part| -> Result<T, Failure> { part.parse::<T>().map_err(|_| misuse.into()) })
+        .try_collect(heap)
 }
 
-/// The edges of a macro that was read.
-fn edges_of(heap: Global, bytes: &[u8], header: Header) -> Result<Vec<Edge>, Failure>
-    requires { headed bytes.now ≡ Ok header }
-    ensures { IfOk result (λ v. Edges v.items bytes.now) }
+/// The edges in the order of the file.
+fn edges_of(heap: Global, file: MacroFile) -> Result<Vec<Edge>, AllocError>
+    ensures { IfOk result (λ v. v.items ≡ edges_in file.entry.bytes.now) }
 {
-    let mut edges = Vec::new(heap);
-    for number in 0..usize::from(header.edges) {
-        edges.push(edge_at(bytes, header, number))?;
-    }
-    Ok(edges)
+    file.edges().collect(heap)
 }
 
 /// Prints the steps of the path, and then the place where it ends, and whether that is the guarded place.
@@ -52,17 +41,11 @@ pub fn run(rt: &HostRuntime, file: &str, options: RunOptions) -> Result<(), Fail
     let readings: Vec<i32> = list(heap, options.readings, Misuse::ReadingNumbers)?;
     let path: Vec<u16> = list(heap, options.path, Misuse::PathNumbers)?;
     let bytes = file_bytes(rt, file)?;
-    let header = read(bytes.as_slice())?;
-    let edges = edges_of(heap, bytes.as_slice(), header)?;
+    let source = MacroFile::open(bytes.as_slice())?;
+    let edges = edges_of(heap, source)?;
     let mut numbers = start.clone()?;
-    let source = Macro {
-        variables: header.variables,
-        places: header.places,
-        guarded: header.guarded,
-        edges: edges.as_slice(),
-    };
     let answer = drive(
-        source,
+        source.header.with_edges(edges.as_slice()),
         path.as_slice(),
         numbers.as_mut_slice(),
         readings.as_slice(),
@@ -81,7 +64,7 @@ pub fn run(rt: &HostRuntime, file: &str, options: RunOptions) -> Result<(), Fail
     rt.print(lines)?;
     let place = answer?;
     println!(rt; "end place {place}")?;
-    let guarded = if place == header.guarded { "yes" } else { "no" };
+    let guarded = if place == source.header.guarded { "yes" } else { "no" };
     println!(rt; "guarded {guarded}")?;
     Ok(())
 }

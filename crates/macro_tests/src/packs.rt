@@ -2,7 +2,8 @@
 use macros::faults::{Call, Told};
 use macros::parts::{Arithmetic, Comparison, Edge, Header, Operand, Operation};
 use packing::{Macro, PackRefusal, pack};
-use reading::{edge_at, read_macro};
+use reading::file::MacroFile;
+use reading::read_macro;
 use std::array;
 use std::test::Fail;
 
@@ -52,8 +53,11 @@ fn the_longest_macro_reads_back(rt: HostRuntime) -> Result<(), Fail> {
                 edges: 511,
             }
     );
-    for number in 0..header.edges {
-        assert!(rt; edge_at(file, header, usize::from(number)) == edge(number));
+    let Ok(opened) = MacroFile::open(file) else {
+        return Err(Fail::new("not opened"));
+    };
+    for number in 0..opened.header.edges {
+        assert!(rt; opened.edge_at(usize::from(number)) == edge(number));
     }
     Ok(())
 }

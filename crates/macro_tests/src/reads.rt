@@ -1,7 +1,8 @@
 //! Macro A, changed in one field after the other, and cut short or made longer.
 use macros::faults::{Call, Told};
 use macros::parts::{Comparison, Edge, Header, Operand, Operation};
-use reading::{ReadRefusal, edge_at, read, read_macro};
+use reading::file::MacroFile;
+use reading::{ReadRefusal, read, read_macro};
 use std::test::Fail;
 
 const MACRO_A: [u8; 16] = [
@@ -159,7 +160,10 @@ fn macro_a_is_read(rt: HostRuntime) -> Result<(), Fail> {
             right: Operand::Constant(0),
         },
     };
-    assert!(rt; edge_at(&MACRO_A, header, 0) == edge);
+    let Ok(file) = MacroFile::open(&MACRO_A) else {
+        return Err(Fail::new("not opened"));
+    };
+    assert!(rt; file.edges().next() == Some(edge));
     Ok(())
 }
 

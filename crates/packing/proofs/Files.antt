@@ -1,6 +1,6 @@
 -- The header and the edges of a file, written one after the other.
-use Rattle.std.proofs.Common.{◌≡◌, ℕ, ◌+◌, ◌*◌, ◌≤◌, List, [], ◌∷◌, ◌++◌, length, drop, replicate, refl, ap, ◌∙◌, ap₂, arith}
-use Rattle.std.proofs.lemmas.List.{length-replicate}
+use Rattle.std.proofs.Common.{◌≡◌, ℕ, ◌+◌, ◌*◌, ◌≤◌, List, [], ◌∷◌, ◌++◌, length, take, drop, replicate, refl, ap, ◌∙◌, ap₂, arith}
+use Rattle.std.proofs.lemmas.List.{length-replicate, length-take-le}
 use Rattle.bits.specs.Field.{Bytes, field}
 use Rattle.bits.proofs.Appends.{zero_bytes}
 use Rattle.macros.specs.declared.parts.Edge.{Edge}
@@ -62,13 +62,14 @@ length_packed m = length_macro (replicate (file_length (length m.edges)) 0) m �
 pub packed_bytes : (m : Macro) → Bytes (packed m)
 packed_bytes m = edges_bytes _ 0 m.edges (fields_bytes _ 0 (header_list (header_fields m)) (zero_bytes (file_length (length m.edges))))
 
--- cleared, and then the header and the edges written: the macro's bytes, and what was beyond them
-pub macro_written : (m : Macro) (out cleared headed edged : List ℕ) (f : HeaderFields)
-    → cleared ≡ replicate (file_length (length m.edges)) 0 ++ drop (file_length (length m.edges)) out
-    → f ≡ header_fields m → headed ≡ put_fields cleared 0 (header_list f) → edged ≡ put_edges headed 0 m.edges
+-- the first bytes made 0, and then the header and the edges written: the macro's bytes, and what was beyond them
+pub macro_written : (m : Macro) (out first headed edged : List ℕ) (f : HeaderFields) → file_length (length m.edges) ≤ length out
+    → first ≡ replicate (length (take (file_length (length m.edges)) out)) 0
+    → f ≡ header_fields m → headed ≡ put_fields (first ++ drop (file_length (length m.edges)) out) 0 (header_list f) → edged ≡ put_edges headed 0 m.edges
     → edged ≡ packed m ++ drop (file_length (length m.edges)) out
-macro_written m out cleared headed edged f c h p e =
+macro_written m out first headed edged f room c h p e =
     let n = file_length (length m.edges) in
     let l : length (replicate {A = ℕ} n 0) ≡ n = length-replicate n 0 in
-    e ∙ ap (λ b. put_edges b 0 m.edges) (p ∙ ap₂ (λ (b : List ℕ) (x : HeaderFields). put_fields b 0 (header_list x)) c h)
+    let z : first ≡ replicate n 0 = c ∙ ap (λ k. replicate k 0) (length-take-le n out room) in
+    e ∙ ap (λ b. put_edges b 0 m.edges) (p ∙ ap₂ (λ (b : List ℕ) (x : HeaderFields). put_fields (b ++ drop n out) 0 (header_list x)) z h)
     ∙ macro_append (replicate n 0) (drop n out) m (omega arith)

@@ -1,7 +1,7 @@
 -- What packing promises follows from what it answers and what the memory then holds.
-use Rattle.std.proofs.Common.{◌≡◌, ℕ, ◌+◌, ◌≤◌, List, [], ◌∷◌, ◌++◌, length, take, drop, IfOk, Ok, Err, Result, sym, refl, ap, ◌∙◌, subst, arith}
+use Rattle.std.proofs.Common.{◌≡◌, ℕ, ◌+◌, ◌≤◌, ltb, List, [], ◌∷◌, ◌++◌, length, take, drop, IfOk, Ok, Err, Result, sym, refl, ap, ◌∙◌, subst, arith}
 use Rattle.std.proofs.lemmas.List.{take_at}
-use Rattle.std.proofs.lemmas.Bool.{le-ltb}
+use Rattle.std.proofs.lemmas.Bool.{le-ltb, ltb-false}
 use Rattle.std.specs.List.{AllByRecursion}
 use Rattle.macros.specs.declared.parts.Edge.{Edge}
 use Rattle.macros.specs.declared.parts.Header.{Header}
@@ -10,7 +10,7 @@ use Rattle.macros.specs.Layout.{edge_bit, file_length}
 use Rattle.macros.specs.Macro.{Macro, header_of}
 use Rattle.decoding.specs.Decode.{decode_edge, decode_header}
 use Rattle.reading.specs.Reading.{read_macro}
-use Rattle.macros.proofs.Binds.{bind_ok, ok_same}
+use Rattle.macros.proofs.Binds.{bind_ok, cond_not_ok, ok_same}
 use Rattle.reading.proofs.Edges.{header_length, macro_holds}
 use Rattle.packing.specs.declared.faults.PackRefusal.{PackRefusal}
 use Rattle.packing.specs.Encode.{fields_of, header_fields}
@@ -76,6 +76,10 @@ answer_out m given count e =
     let a = bind_ok in_pack (test_macro m) _ count e in
     let b = bind_ok no_room (test_room (file_length (length m.edges)) given) _ count a.2 in
     (a.0, a.1, ok_same b.2)
+
+-- memory that is not refused has room
+pub room_out : (needed given : ℕ) → test_room needed given ≡ Ok tt → needed ≤ given
+room_out needed given e = ltb-false given needed (cond_not_ok (ltb given needed) (Ok tt) _ tt e).0
 
 -- what was written stands first in the memory
 written : (m : Macro) (count : ℕ) (rest out : List ℕ) → file_length (length m.edges) ≡ count → out ≡ packed m ++ rest → take count out ≡ packed m

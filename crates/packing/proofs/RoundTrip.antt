@@ -8,6 +8,10 @@ use Rattle.bits.specs.Field.{Bytes, field}
 use Rattle.bits.proofs.Appends.{bytes_same}
 use Rattle.bits.proofs.FieldLaws.{field_lt, field_none, field_split}
 use Rattle.macros.specs.declared.faults.EdgeFault.{EdgeFault}
+use Rattle.macros.specs.declared.form.Form.{Form as EdgeForm}
+use Rattle.macros.specs.declared.form.Form.TheVariants.{Set as set_form, Compute as compute_form, Read as read_form, Test as test_form}
+use Rattle.macros.specs.declared.parts.Arithmetic.TheVariants.{Add, Subtract, Multiply, Remainder}
+use Rattle.macros.specs.declared.parts.Comparison.TheVariants.{Equal, NotEqual, Less, AtMost, Greater, AtLeast}
 use Rattle.macros.specs.declared.parts.Edge.{Edge}
 use Rattle.macros.specs.declared.parts.Header.{Header}
 use Rattle.macros.specs.declared.parts.Operand.{Operand}
@@ -15,6 +19,7 @@ use Rattle.macros.specs.declared.parts.Operand.TheVariants.{Constant, Variable}
 use Rattle.macros.specs.declared.parts.Operation.{Operation}
 use Rattle.macros.specs.declared.parts.Operation.TheVariants.{Set, Compute, Read, Test}
 use Rattle.macros.specs.Faults.{bind, in_edge, same}
+use Rattle.macros.specs.Forms.{form_number}
 use Rattle.macros.specs.Layout.{edge_bit, file_length}
 use Rattle.macros.specs.Macro.{Macro, header_of}
 use Rattle.decoding.specs.Decode.{decode_edge, decode_header, edge_fields_at, header_fields_at}
@@ -28,7 +33,7 @@ use Rattle.packing.proofs.EdgeRows.{edge_held, edge_read, edge_row, edge_same, e
 use Rattle.packing.proofs.Files.{edges_before, length_packed, packed_bytes, put_edge}
 use Rattle.packing.proofs.Headers.{header_back, header_decoded, header_numbers, macro_header_in}
 use Rattle.packing.proofs.Inverse.{NarrowFields, edge_back}
-use Rattle.packing.proofs.Ranges.{edge_in, form_lt}
+use Rattle.packing.proofs.Ranges.{edge_in}
 use Rattle.packing.proofs.Rows.{Held, Narrow, fields_held, held_kept, length_fields}
 
 -- ---- the numbers of a part in range fit their fields
@@ -49,11 +54,25 @@ unfolding Narrow
 numbers_narrow n a b form t l r le ha hb hf ht hl hr =
     (ha, (hb, (omega arith, (ht, (mark_lt l, (number_lt n l le hl, (mark_lt r, (number_lt n r le hr, (omega arith, tt)))))))))
 
+form_lt : (f : EdgeForm) → form_number f < 12
+form_lt set_form = omega arith
+form_lt (compute_form Add) = omega arith
+form_lt (compute_form Subtract) = omega arith
+form_lt (compute_form Multiply) = omega arith
+form_lt (compute_form Remainder) = omega arith
+form_lt read_form = omega arith
+form_lt (test_form Equal) = omega arith
+form_lt (test_form NotEqual) = omega arith
+form_lt (test_form Less) = omega arith
+form_lt (test_form AtMost) = omega arith
+form_lt (test_form Greater) = omega arith
+form_lt (test_form AtLeast) = omega arith
+
 operation_narrow : (n a b : ℕ) (o : Operation) → n ≤ 15 → a < 256 → b < 256 → OperationInRange n o → Narrow (edge_list (operation_fields a b o))
-operation_narrow n a b (Set t l) le ha hb h = numbers_narrow n a b 0 t l none le ha hb (omega arith) (omega (arith, h.0)) h.1 (none_in n)
-operation_narrow n a b (Compute c t l r) le ha hb h = numbers_narrow n a b _ t l r le ha hb (form_lt a b (Compute c t l r)) (omega (arith, h.0)) h.1 h.2
-operation_narrow n a b (Read t) le ha hb h = numbers_narrow n a b 5 t none none le ha hb (omega arith) (omega arith) (none_in n) (none_in n)
-operation_narrow n a b (Test c l r) le ha hb h = numbers_narrow n a b _ 0 l r le ha hb (form_lt a b (Test c l r)) (omega arith) h.0 h.1
+operation_narrow n a b (Set t l) le ha hb h = numbers_narrow n a b _ t l none le ha hb (omega arith) (omega (arith, h.0)) h.1 (none_in n)
+operation_narrow n a b (Compute c t l r) le ha hb h = numbers_narrow n a b _ t l r le ha hb (form_lt (compute_form c)) (omega (arith, h.0)) h.1 h.2
+operation_narrow n a b (Read t) le ha hb h = numbers_narrow n a b _ t none none le ha hb (omega arith) (omega arith) (none_in n) (none_in n)
+operation_narrow n a b (Test c l r) le ha hb h = numbers_narrow n a b _ 0 l r le ha hb (form_lt (test_form c)) (omega arith) h.0 h.1
 
 edge_narrow : (n p : ℕ) (x : Edge) → n ≤ 15 → p ≤ 255 → EdgeInRange n p x → Narrow (edge_list (fields_of x))
 edge_narrow n p x hn hp h = operation_narrow n x.from x.to x.operation hn (omega (arith, h.0)) (omega (arith, h.1)) h.2

@@ -2,15 +2,13 @@
 use Rattle.std.specs.Prelude.{ℕ, min, length, pos}
 use Rattle.std.specs.Int.{w32}
 use Rattle.std.proofs.Common.{of_z}
-use Rattle.macros.specs.declared.parts.Arithmetic.{Arithmetic}
-use Rattle.macros.specs.declared.parts.Arithmetic.TheVariants.{Add, Subtract, Multiply, Remainder}
-use Rattle.macros.specs.declared.parts.Comparison.{Comparison}
-use Rattle.macros.specs.declared.parts.Comparison.TheVariants.{Equal, NotEqual, Less, AtMost, Greater, AtLeast}
+use Rattle.macros.specs.declared.form.Form.TheVariants.{Set as set_form, Compute as compute_form, Read as read_form, Test as test_form}
 use Rattle.macros.specs.declared.parts.Edge.{Edge}
 use Rattle.macros.specs.declared.parts.Operand.{Operand}
 use Rattle.macros.specs.declared.parts.Operand.TheVariants.{Constant, Variable}
 use Rattle.macros.specs.declared.parts.Operation.{Operation}
 use Rattle.macros.specs.declared.parts.Operation.TheVariants.{Set, Compute, Read, Test}
+use Rattle.macros.specs.Forms.{form_number}
 use Rattle.macros.specs.Macro.{Macro}
 use Rattle.decoding.specs.declared.fields.EdgeFields.{EdgeFields}
 use Rattle.decoding.specs.declared.fields.HeaderFields.{HeaderFields}
@@ -35,20 +33,6 @@ abbrev pub number_of : Operand → ℕ
 number_of (Constant k) = of_z w32 k
 number_of (Variable v) = v
 
-abbrev pub arithmetic_form : Arithmetic → ℕ
-arithmetic_form Add = 1
-arithmetic_form Subtract = 2
-arithmetic_form Multiply = 3
-arithmetic_form Remainder = 4
-
-abbrev pub comparison_form : Comparison → ℕ
-comparison_form Equal = 6
-comparison_form NotEqual = 7
-comparison_form Less = 8
-comparison_form AtMost = 9
-comparison_form Greater = 10
-comparison_form AtLeast = 11
-
 -- an edge's numbers, from its two places, its form, its target and its operands
 abbrev pub numbers : ℕ → ℕ → ℕ → ℕ → Operand → Operand → EdgeFields
 numbers from to form target left right =
@@ -68,11 +52,12 @@ numbers from to form target left right =
 abbrev pub none : Operand
 none = Constant (pos 0)
 
+-- what the operation of an edge from place to place puts into the fields
 abbrev pub operation_fields : ℕ → ℕ → Operation → EdgeFields
-operation_fields from to (Set t l) = numbers from to 0 t l none
-operation_fields from to (Compute a t l r) = numbers from to (arithmetic_form a) t l r
-operation_fields from to (Read t) = numbers from to 5 t none none
-operation_fields from to (Test c l r) = numbers from to (comparison_form c) 0 l r
+operation_fields from to (Set t l) = numbers from to (form_number set_form) t l none
+operation_fields from to (Compute a t l r) = numbers from to (form_number (compute_form a)) t l r
+operation_fields from to (Read t) = numbers from to (form_number read_form) t none none
+operation_fields from to (Test c l r) = numbers from to (form_number (test_form c)) 0 l r
 
 abbrev pub fields_of : Edge → EdgeFields
 fields_of x = operation_fields x.from x.to x.operation

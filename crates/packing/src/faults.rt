@@ -5,20 +5,20 @@ ghost use Rattle.std.specs.Prelude.{◌≡◌};
 use macros::faults::{Call, MacroFault, Told};
 
 /// Memory of `given` bytes where `needed` are to be written: refusal 8.
-#[derive(Clone, Copy)]
+#[derive(Clone, Copy, Debug, PartialEq, Eq)]
 pub struct RoomFault {
     pub needed: usize,
     pub given: usize,
 }
 
-#[derive(Clone, Copy)]
+#[derive(Clone, Copy, Debug, PartialEq, Eq)]
 pub enum PackFault {
     Macro(MacroFault),
     Room(RoomFault),
 }
 
 /// What `pack` answers where it declines.
-#[derive(Clone, Copy)]
+#[derive(Clone, Copy, Debug, PartialEq, Eq)]
 pub struct PackRefusal {
     pub call: Call,
     pub fault: PackFault,

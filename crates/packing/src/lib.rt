@@ -11,6 +11,7 @@ ghost use Rattle.macros.specs.Range.{Sized};
 use decoding::{decode_edge, decode_header};
 use encode::{edge_fields, header_fields};
 use macros::faults::{EdgeFault, MacroFault};
+use macros::layout::Start;
 use macros::parts::{Edge, Header};
 use writing::{write_edges, write_header};
 
@@ -28,12 +29,7 @@ fn test_edges(header: Header, edges: &[Edge]) -> Result<(), EdgeFault>
     ensures sized { OnOk result (Sized edges.now) }
 {
     for (number, edge) in edges.iter().enumerate() {
-        decode_edge(
-            header.variables,
-            header.places,
-            32 + 96 * number,
-            edge_fields(*edge),
-        )?;
+        decode_edge(header, Start::of_edge(number), edge_fields(*edge))?;
     }
     Ok(())
 }
@@ -57,15 +53,6 @@ fn test_room(needed: usize, given: usize) -> Result<(), RoomFault>
     }
 }
 
-fn clear(bytes: &mut [u8], count: usize)
-    requires { count ≤ length bytes.old }
-    ensures { bytes.new ≡ replicate count 0 ++ drop count bytes.old }
-{
-    for k in 0..count {
-        bytes[k] = 0;
-    }
-}
-
 /// Packs the macro into the first bytes of `out`, and answers how many they are; what lies beyond them is kept.
 pub fn pack(source: Macro, out: &mut [u8]) -> Result<usize, PackRefusal>
     ensures answer { result ≡ pack_answer (given source.entry) (length out.old) }
@@ -75,7 +62,7 @@ pub fn pack(source: Macro, out: &mut [u8]) -> Result<usize, PackRefusal>
     test_macro(source)?;
     let count = 4 + 12 * source.edges.len();
     test_room(count, out.len())?;
-    clear(out, count);
+    out[..count].fill(0);
     write_header(out, header_fields(source));
     write_edges(out, source.edges);
     Ok(count)

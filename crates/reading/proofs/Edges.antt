@@ -1,6 +1,9 @@
 -- The edges of a file, one after the other.
-use Rattle.std.proofs.Common.{◌≡◌, ℕ, zero, suc, ◌+◌, ◌-◌, ◌<◌, ◌≤◌, eqb, ltb, List, ◌∷◌, length, Ok, Err, Result, sym, refl, ap, ◌∙◌, subst, arith}
+use Rattle.std.proofs.Common.{◌≡◌, ℕ, zero, suc, ◌+◌, ◌-◌, ◌<◌, ◌≤◌, eqb, ltb, List, ◌∷◌, length, drop, add-one, Some, Ok, Err, Result, sym, refl, ap, ◌∙◌, subst, arith}
 use Rattle.std.proofs.lemmas.Bool.{eqb-true}
+use Rattle.std.proofs.lemmas.Option.{get_or_from_slice_get, slice_get_within}
+use Rattle.std.proofs.Math.Seq.{drop-cons}
+use Rattle.std.specs.List.{slice_get}
 use Rattle.macros.specs.declared.faults.EdgeFault.{EdgeFault}
 use Rattle.macros.specs.declared.parts.Edge.{Edge}
 use Rattle.macros.specs.declared.parts.Header.{Header}
@@ -8,7 +11,7 @@ use Rattle.macros.specs.Macro.{Macro, header_of, macro_of}
 use Rattle.macros.specs.Faults.{bind, same, tested, in_edges, in_header}
 use Rattle.macros.specs.Layout.{file_length}
 use Rattle.decoding.specs.Decode.{decode_header, header_fields_at}
-use Rattle.reading.specs.Reading.{read_edge, read_edges, read_header, read_macro, headed}
+use Rattle.reading.specs.Reading.{edges_in, edges_read, read_edge, read_edges, read_header, read_macro, headed}
 use Rattle.macros.proofs.Binds.{bind_ok, cond_ok, cond_not_ok, ok_same}
 
 longer : (r : Result (List Edge) EdgeFault) (x : Edge) → tested (bind same r (λ xs. Ok (x ∷ xs))) ≡ tested r
@@ -99,26 +102,44 @@ headed_length bs h e =
     let m = headed_macro bs h e in
     header_length bs h (m.1.header ∙ ap (λ x. Ok x) m.2)
 
--- each of the edges that are read can be read by its number
-pub edge_read : (bs : List ℕ) (h : Header) (i k : ℕ) (xs : List Edge) → read_edges bs h i k ≡ Ok xs → (j : ℕ) → j < k → (x : Edge) × (read_edge bs h (i + j) ≡ Ok x)
+-- each of the edges that are read is read by its number
+pub edge_read : (bs : List ℕ) (h : Header) (i k : ℕ) (xs : List Edge) → read_edges bs h i k ≡ Ok xs → (j : ℕ) → j < k → (x : Edge) × (read_edge bs h (i + j) ≡ Ok x) × (slice_get xs j ≡ Some x)
 unfolding read_edges
 edge_read bs h i zero xs e j lt = absurd (omega arith)
 edge_read bs h i (suc k) xs e zero lt =
     let a = bind_ok same (read_edge bs h i) _ xs e in
+    let b = bind_ok same (read_edges bs h (i + 1) k) _ xs a.2 in
     let z : i ≡ i + 0 = omega arith in
-    (a.0, ap (λ n. read_edge bs h n) (sym z) ∙ a.1)
+    (a.0, ap (λ n. read_edge bs h n) (sym z) ∙ a.1, ap (λ ys. slice_get ys 0) (sym (ok_same b.2)))
 edge_read bs h i (suc k) xs e (suc j) lt =
     let a = bind_ok same (read_edge bs h i) _ xs e in
     let b = bind_ok same (read_edges bs h (i + 1) k) _ xs a.2 in
     let r = edge_read bs h (i + 1) k b.0 b.1 j (omega arith) in
     let z : i + suc j ≡ i + 1 + j = omega arith in
-    (r.0, ap (λ n. read_edge bs h n) z ∙ r.1)
+    (r.0, ap (λ n. read_edge bs h n) z ∙ r.1, ap (λ ys. slice_get ys (suc j)) (sym (ok_same b.2)) ∙ r.2)
 
-pub headed_edge : (bs : List ℕ) (h : Header) → headed bs ≡ Ok h → (i : ℕ) → i < h.edges → (x : Edge) × (read_edge bs h i ≡ Ok x)
+-- the same of the edges in a file that holds a macro
+pub headed_edge : (bs : List ℕ) (h : Header) → headed bs ≡ Ok h → (i : ℕ) → i < h.edges → (x : Edge) × (read_edge bs h i ≡ Ok x) × (slice_get (edges_in bs) i ≡ Some x)
 headed_edge bs h e i lt =
     let a = headed_macro bs h e in
     let m = a.0 in
     let n : length m.edges ≡ h.edges = ap (λ (x : Header). x.edges) a.2 in
     let r = edge_read bs (header_of m) 0 (length m.edges) m.edges a.1.edges i (omega arith) in
     let z : 0 + i ≡ i = omega arith in
-    (r.0, ap (λ g. read_edge bs g i) (sym a.2) ∙ ap (λ k. read_edge bs (header_of m) k) (sym z) ∙ r.1)
+    let is : edges_in bs ≡ m.edges = ap edges_read (holds_macro bs m a.1) in (
+      r.0,
+      ap (λ g. read_edge bs g i) (sym a.2) ∙ ap (λ k. read_edge bs (header_of m) k) (sym z) ∙ r.1,
+      ap (λ ys. slice_get ys i) is ∙ r.2,
+    )
+
+-- a file that holds a macro has as many edges as its header says
+pub headed_edges : (bs : List ℕ) (h : Header) → headed bs ≡ Ok h → length (edges_in bs) ≡ h.edges
+headed_edges bs h e =
+    let a = headed_macro bs h e in
+    ap (λ r. length (edges_read r)) (holds_macro bs a.0 a.1) ∙ ap (λ (x : Header). x.edges) a.2
+
+-- an element, and the others after it
+pub drop_get : (xs : List Edge) (i : ℕ) (x : Edge) → slice_get xs i ≡ Some x → drop i xs ≡ x ∷ drop (i + 1) xs
+drop_get xs i x is =
+    let within = slice_get_within xs i x is in
+    rw (add-one, drop-cons xs i x within, get_or_from_slice_get xs i x x is) refl

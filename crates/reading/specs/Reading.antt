@@ -51,3 +51,12 @@ told_read r = told_macro r.call r.fault
 -- what `read` answers: the header of the macro, or why the file holds none
 abbrev pub read_answer : List ℕ → Result Header ReadRefusal
 read_answer bs = bind in_read (read_macro bs) (λ m. Ok (header_of m))
+
+-- the edges of the macro that was read; none where the file was refused
+abbrev pub edges_read : Result Macro MacroFault → List Edge
+edges_read (Ok m) = m.edges
+edges_read (Err f) = []
+
+-- the edges of the macro that a file holds
+abbrev pub edges_in : List ℕ → List Edge
+edges_in bs = edges_read (read_macro bs)

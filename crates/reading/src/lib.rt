@@ -1,5 +1,5 @@
 //! Reading a packed macro: its header, an edge by its number, and the whole file.
-//! A file is tested by `read`, and its edges are then had one by one by `edge_at`.
+//! A file is tested by `read`. `MacroFile` is a file that passed, and gives its edges one by one.
 
 #![tactic(auto)]
 
@@ -11,10 +11,13 @@ ghost use Rattle.reading.specs.Reading.{headed, in_read, read_answer, read_edge,
 use decoding::fields::{read_edge_fields, read_header_fields};
 use decoding::{decode_edge, decode_header};
 use macros::faults::{Call, EdgeFault, LengthFault, MacroFault, Told};
+use macros::layout::Start;
 use macros::parts::{Edge, Header};
 
+pub mod file;
+
 /// What `read` answers where it declines.
-#[derive(Clone, Copy)]
+#[derive(Clone, Copy, Debug, PartialEq, Eq)]
 pub struct ReadRefusal {
     pub call: Call,
     pub fault: MacroFault,
@@ -70,16 +73,12 @@ pub fn read_header(bytes: &[u8]) -> Result<Header, MacroFault>
 
 /// One edge by its number, of a file whose header was read.
 pub fn read_edge(bytes: &[u8], header: Header, number: usize) -> Result<Edge, EdgeFault>
-    requires { (number < header.edges) × (length bytes.now ≡ file_length header.edges) }
+    requires there { number < header.edges }
+    requires whole { length bytes.now ≡ file_length header.edges }
     ensures { result ≡ read_edge bytes.now header number }
 {
-    let at = 32 + 96 * number;
-    let edge = decode_edge(
-        header.variables,
-        header.places,
-        at,
-        read_edge_fields(bytes, at),
-    )?;
+    let start = Start::of_edge(number);
+    let edge = decode_edge(header, start, read_edge_fields(bytes, start))?;
     Ok(edge)
 }
 
@@ -109,15 +108,4 @@ pub fn read(bytes: &[u8]) -> Result<Header, ReadRefusal>
 {
     let header = read_macro(bytes)?;
     Ok(header)
-}
-
-/// One edge by its number, of a file that was read: it is known to be there.
-pub fn edge_at(bytes: &[u8], header: Header, number: usize) -> Edge
-    requires { (headed bytes.now ≡ Ok header) × (number < header.edges) }
-    ensures { read_edge bytes.now header number ≡ Ok result }
-{
-    match read_edge(bytes, header, number) {
-        Ok(edge) => edge,
-        Err(_) => unreachable(),
-    }
 }

@@ -1,12 +1,10 @@
 //! What reading and packing make of a macro, compared with what a line's answer tells of it.
-ghost use Rattle.reading.specs.Reading.{headed};
-ghost use Rattle.std.specs.Prelude.{◌≡◌, Ok};
-
 use crate::lines::Answer;
 use macros::faults::{Call, Told};
-use macros::parts::{Edge, Header};
+use macros::parts::Edge;
 use packing::{Macro, PackRefusal, pack};
-use reading::{ReadRefusal, edge_at, read};
+use reading::file::MacroFile;
+use reading::{ReadRefusal, read};
 use std::alloc::{AllocError, Global};
 use std::fmt;
 
@@ -143,15 +141,6 @@ impl From<AllocError> for Failure {
     }
 }
 
-/// The edges in their order, of a file that was read.
-fn edges_of(heap: Global, bytes: &[u8], header: Header) -> Result<Vec<Edge>, AllocError>
-    requires { headed bytes.now ≡ Ok header }
-{
-    (0..usize::from(header.edges))
-        .map(|number| edge_at(bytes, header, number))
-        .collect(heap)
-}
-
 /// The first byte that packing left other than in the macro's file, or beyond it other than it was.
 fn first_difference(packed: &[u8], file: &[u8]) -> Option<Deviation> {
     packed
@@ -181,15 +170,9 @@ fn run_pack(heap: Global, source: Macro, bytes: &[u8]) -> Result<Agreement, Fail
 
 /// Reads the macro and packs it again.
 fn run_read(heap: Global, bytes: &[u8]) -> Result<Agreement, Failure> {
-    let header = read(bytes).map_err(ReadRefusal::told)?;
-    let edges = edges_of(heap, bytes, header)?;
-    let source = Macro {
-        variables: header.variables,
-        places: header.places,
-        guarded: header.guarded,
-        edges: edges.as_slice(),
-    };
-    run_pack(heap, source, bytes)
+    let file = MacroFile::open(bytes).map_err(ReadRefusal::told)?;
+    let edges: Vec<Edge> = file.edges().collect(heap)?;
+    run_pack(heap, file.header.with_edges(edges.as_slice()), bytes)
 }
 
 /// Reads what is to be refused, and compares the number, the call and the spot.

@@ -10,13 +10,13 @@ pub returns-in_err-decode_edge : goal.returns-in_err-decode_edge
 returns-in_err-decode_edge c =
     let p = err_from_is_err_and c.from_residual.result c.from_residual.ensures.1 in
     record {
-      answer = p.1 ∙ ap (λ f. Err f) p.2 ∙ sym (c.loop-number.invariant.0 ∙ test_fault _ _ _ _ c.loop-number-test.true _ c.edge_fields.ensures.fields _ c.in_err-decode_edge.ensures);
+      answer = p.1 ∙ ap (λ f. Err f) p.2 ∙ sym (c.loop-number.invariant.0 ∙ test_fault _ _ _ _ _ c.loop-number-test.true c.of_edge.ensures _ c.edge_fields.ensures.fields _ c.in_err-decode_edge.ensures);
       sized = IfOk-from_err c.from_residual.result _ c.from_residual.ensures.0;
     }
 
 pub loop-number-preserved : goal.loop-number-preserved
 loop-number-preserved c = (
-  c.loop-number.invariant.0 ∙ test_more _ _ _ _ c.loop-number-test.true _ c.edge_fields.ensures.fields _ c.in_ok-decode_edge.ensures,
+  c.loop-number.invariant.0 ∙ test_more _ _ _ _ _ c.loop-number-test.true c.of_edge.ensures _ c.edge_fields.ensures.fields _ c.in_ok-decode_edge.ensures,
   All-more SizedEdge _ _ _ c.loop-number-test.true c.loop-number.invariant.1 c.edge_fields.ensures.sized,
 )
 

@@ -5,7 +5,7 @@ use Rattle.reading.proofs.Edges.{edges_none, edges_next, edges_fault, header_len
 use Rattle.reading.proofs.test_edges.Goals as goal
 
 pub read_edge-requires : goal.read_edge-requires
-read_edge-requires c = (omega arith, header_length c.args.bytes.now c.args.header c.requires)
+read_edge-requires c = record { there = omega arith; whole = header_length c.args.bytes.now c.args.header c.requires }
 
 pub returns-in_err-read_edge : goal.returns-in_err-read_edge
 returns-in_err-read_edge c =
