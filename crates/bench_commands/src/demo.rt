@@ -4,12 +4,11 @@ ghost use Rattle.macros.specs.Lent.{given};
 ghost use Rattle.reading.specs.Reading.{read_macro};
 ghost use Rattle.std.specs.Prelude.{◌≡◌, IfOk, Ok};
 
-use crate::failure::Failure;
 use crate::show::show_lines;
+use failures::Failure;
 use macros::parts::{Comparison, Edge, Operand, Operation};
 use packing::{Macro, pack};
 use std::alloc::Global;
-use std::fmt;
 
 /// The length of a file with the most edges: 4 + 12 * 511 bytes.
 const LONGEST: usize = 6136;
@@ -24,17 +23,9 @@ fn packed(heap: Global, source: Macro) -> Result<Vec<u8>, Failure>
     Ok(bytes)
 }
 
-fn hex(heap: Global, bytes: &[u8]) -> Result<String, fmt::Error> {
-    let mut digits = String::new(heap);
-    for byte in bytes.iter() {
-        write!(digits, "{byte:02x}")?;
-    }
-    Ok(digits)
-}
-
 fn show_packed(rt: &HostRuntime, name: &str, source: Macro) -> Result<(), Failure> {
     let bytes = packed(rt.alloc(), source)?;
-    let digits = hex(rt.alloc(), bytes.as_slice())?;
+    let digits = hex::encode(rt.alloc(), bytes.as_slice())?;
     let lines = show_lines(rt.alloc(), bytes.as_slice())?;
     println!(rt; "macro {name}")?;
     println!(rt; "packed {digits}")?;

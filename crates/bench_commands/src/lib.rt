@@ -2,18 +2,19 @@
 
 #![tactic(auto)]
 
-mod command;
 mod demo;
-pub mod failure;
 mod show;
 
-use command::Command;
-use failure::Failure;
+use command_words::command::{Command, parse};
+use command_words::misuse::Program;
+
+pub use failures::Failure;
 
 /// Does what the words ask for. What it prints goes to standard output; a failure is for the caller to print.
 pub fn run(rt: &HostRuntime, words: &[&str]) -> Result<(), Failure> {
-    match command::parse(words)? {
+    match parse(Program::Showing, words)? {
         Command::Demo => demo::demo(rt),
         Command::Show { file } => show::show(rt, file),
+        Command::Run { .. } => unreachable!(),
     }
 }

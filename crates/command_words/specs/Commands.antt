@@ -1,9 +1,11 @@
 -- Which words name which command.
-use Rattle.std.specs.Prelude.{◌≡◌, ℕ, List, [], ◌∷◌, map, take, Ok, Err, codes, Result}
+use Rattle.std.specs.Prelude.{◌≡◌, ℕ, List, [], ◌∷◌, map, take, Some, None, Ok, Err, codes, Option, Result}
 use Rattle.std.specs.Borrow.{Bor}
 use Rattle.command_words.specs.declared.command.Command.{Command}
 use Rattle.command_words.specs.declared.command.Command.TheVariants.{Demo, Show, Run}
 use Rattle.command_words.specs.declared.misuse.Misuse.{Misuse}
+use Rattle.command_words.specs.declared.misuse.Program.{Program}
+use Rattle.command_words.specs.declared.misuse.Program.TheVariants.{Showing, Driving}
 
 -- what the words are where a command is named; of the options after a file nothing is stated
 abbrev pub Named : Result Command Misuse → List (Bor (List ℕ)) → Type 0
@@ -12,9 +14,17 @@ Named (Ok (Show f)) ws = map (λ w. w.now) ws ≡ codes "show" ∷ f.now ∷ []
 Named (Ok (Run f o)) ws = take 2 (map (λ w. w.now) ws) ≡ codes "run" ∷ f.now ∷ []
 Named (Err m) ws = Unit {0}
 
--- a run of the macro in this file, or a misuse of its options
-abbrev pub RunOf : Result Command Misuse → List ℕ → Type 0
-RunOf (Ok Demo) file = ⊥
-RunOf (Ok (Show f)) file = ⊥
-RunOf (Ok (Run f o)) file = f.now ≡ file
-RunOf (Err m) file = Unit {0}
+-- the program offers the command, or is the one that is misused
+abbrev pub Offered : Program → Result Command Misuse → Type 0
+Offered p (Ok Demo) = Unit {0}
+Offered p (Ok (Show f)) = Unit {0}
+Offered Showing (Ok (Run f o)) = ⊥
+Offered Driving (Ok (Run f o)) = Unit {0}
+Offered p (Err m) = m.program ≡ p
+
+-- a run of the macro in this file, if the options are in order
+abbrev pub RunOf : Option Command → List ℕ → Type 0
+RunOf (Some Demo) file = ⊥
+RunOf (Some (Show f)) file = ⊥
+RunOf (Some (Run f o)) file = f.now ≡ file
+RunOf None file = Unit {0}

@@ -1,21 +1,26 @@
 -- What is said of words that name no command.
 use Rattle.std.specs.Prelude.{ℕ, List, codes}
+use Rattle.command_words.specs.declared.misuse.Mistake.{Mistake}
+use Rattle.command_words.specs.declared.misuse.Mistake.TheVariants.{NoCommand, NoSuchCommand, WrongCount, WrongOptions, StartNumbers, ReadingNumbers, PathNumbers}
 use Rattle.command_words.specs.declared.misuse.Misuse.{Misuse}
-use Rattle.command_words.specs.declared.misuse.Misuse.TheVariants.{NoCommand, NoSuchCommand, WrongCount, WrongOptions, StartNumbers, ReadingNumbers, PathNumbers}
+use Rattle.command_words.specs.declared.misuse.Program.{Program}
+use Rattle.command_words.specs.declared.misuse.Program.TheVariants.{Showing, Driving}
 use Rattle.texts.specs.Text.{◌&◌}
 
-abbrev pub misuse_name : Misuse → List ℕ
-misuse_name NoCommand = codes "no command"
-misuse_name NoSuchCommand = codes "no such command"
-misuse_name WrongCount = codes "wrong number of files"
-misuse_name WrongOptions = codes "options must be --start and --path, and --readings if any, each once with a value"
-misuse_name StartNumbers = codes "--start takes numbers from -2147483648 to 2147483647, with commas between"
-misuse_name ReadingNumbers = codes "--readings takes numbers from -2147483648 to 2147483647, with commas between"
-misuse_name PathNumbers = codes "--path takes edge numbers from 0 to 65535, with commas between"
+abbrev pub mistake_text : Mistake → List ℕ
+mistake_text NoCommand = codes "no command"
+mistake_text NoSuchCommand = codes "no such command"
+mistake_text WrongCount = codes "wrong number of files"
+mistake_text WrongOptions = codes "options must be --start and --path, and --readings if any, each once with a value"
+mistake_text StartNumbers = codes "--start takes numbers from -2147483648 to 2147483647, with commas between"
+mistake_text ReadingNumbers = codes "--readings takes numbers from -2147483648 to 2147483647, with commas between"
+mistake_text PathNumbers = codes "--path takes edge numbers from 0 to 65535, with commas between"
 
-abbrev pub usage_text : List ℕ
-usage_text = codes "usage: pathbench demo | pathbench show MACRO | pathbench run MACRO --start NUMBERS [--readings NUMBERS] --path EDGES"
+-- how a program is used
+abbrev pub usage_text : Program → List ℕ
+usage_text Showing = codes "usage: pathbench demo | pathbench show MACRO"
+usage_text Driving = codes "usage: pathbench demo | pathbench show MACRO | pathbench run MACRO --start NUMBERS [--readings NUMBERS] --path EDGES"
 
 -- what is wrong with the words, and in the next line how they should be
 abbrev pub misuse_text : Misuse → List ℕ
-misuse_text m = misuse_name m & codes "\n" & usage_text
+misuse_text m = mistake_text m.mistake & codes "\n" & usage_text m.program

@@ -1,10 +1,10 @@
 //! What the words of the command line ask for.
-ghost use Rattle.command_words.specs.Commands.{Named, RunOf};
+ghost use Rattle.command_words.specs.Commands.{Named, Offered, RunOf};
 
-use crate::misuse::Misuse;
+use crate::misuse::{Mistake, Misuse, Program};
 
 /// A command with the files that it works on.
-#[derive(Clone, Copy)]
+#[derive(Clone, Copy, Debug)]
 pub enum Command<'a> {
     Demo,
     Show {
@@ -17,29 +17,34 @@ pub enum Command<'a> {
 }
 
 /// The lists of numbers that a path is driven with, as words.
-#[derive(Clone, Copy)]
+#[derive(Clone, Copy, Debug)]
 pub struct RunOptions<'a> {
     pub start: &'a str,
     pub readings: &'a str,
     pub path: &'a str,
 }
 
-/// The command that the words name: first its name, then its files, then its options.
-pub fn parse<'a>(words: &[&'a str]) -> Result<Command<'a>, Misuse>
-    ensures { Named result words.now }
+/// The command of the program that the words name: first its name, then its files, then its options.
+pub fn parse<'a>(program: Program, words: &[&'a str]) -> Result<Command<'a>, Misuse>
+    ensures named { Named result words.now }
+    ensures offered { Offered program result }
 {
-    match words {
-        [] => Err(Misuse::NoCommand),
-        ["demo"] => Ok(Command::Demo),
-        ["show", file] => Ok(Command::Show { file: *file }),
-        ["run", file, options @ ..] => run_command(*file, options),
-        ["demo" | "show" | "run", ..] => Err(Misuse::WrongCount),
-        _ => Err(Misuse::NoSuchCommand),
-    }
+    let mistake = match (program, words) {
+        (_, ["demo"]) => return Ok(Command::Demo),
+        (_, ["show", file]) => return Ok(Command::Show { file: *file }),
+        (Program::Driving, ["run", file, options @ ..]) => match run_command(*file, options) {
+            Some(command) => return Ok(command),
+            None => Mistake::WrongOptions,
+        },
+        (_, []) => Mistake::NoCommand,
+        (_, ["demo" | "show", ..]) | (Program::Driving, ["run", ..]) => Mistake::WrongCount,
+        _ => Mistake::NoSuchCommand,
+    };
+    Err(Misuse { program, mistake })
 }
 
 /// The options of `run`, in any order and each at most once; only the readings may be left out.
-fn run_command<'a>(file: &'a str, words: &[&'a str]) -> Result<Command<'a>, Misuse>
+fn run_command<'a>(file: &'a str, words: &[&'a str]) -> Option<Command<'a>>
     ensures { RunOf result file.now }
 {
     let mut start = None;
@@ -50,18 +55,15 @@ fn run_command<'a>(file: &'a str, words: &[&'a str]) -> Result<Command<'a>, Misu
             ["--start", value] if start.is_none() => start = Some(*value),
             ["--readings", value] if readings.is_none() => readings = Some(*value),
             ["--path", value] if path.is_none() => path = Some(*value),
-            _ => return Err(Misuse::WrongOptions),
+            _ => return None,
         }
     }
-    match (start, path) {
-        (Some(start), Some(path)) => Ok(Command::Run {
-            file,
-            options: RunOptions {
-                start,
-                readings: readings.unwrap_or(""),
-                path,
-            },
-        }),
-        _ => Err(Misuse::WrongOptions),
-    }
+    Some(Command::Run {
+        file,
+        options: RunOptions {
+            start: start?,
+            readings: readings.unwrap_or(""),
+            path: path?,
+        },
+    })
 }

@@ -2,11 +2,10 @@
 ghost use Rattle.reading.specs.Reading.{edges_in};
 ghost use Rattle.std.specs.Prelude.{◌≡◌, IfOk};
 
-use crate::failure::Failure;
-use crate::files::file_bytes;
 use command_words::command::RunOptions;
-use command_words::misuse::Misuse;
+use command_words::misuse::{Misuse, Mistake, Program};
 use drive_texts::lines::drive_lines;
+use failures::{Failure, file_bytes};
 use macros::parts::Edge;
 use reading::file::MacroFile;
 use runs::drives::drive;
@@ -15,13 +14,17 @@ use std::alloc::{AllocError, Global};
 use std::str::FromStr;
 
 /// The numbers in a word, with commas between them; an empty word has none.
-fn list<T: FromStr + Drop>(heap: Global, word: &str, misuse: Misuse) -> Result<Vec<T>, Failure>
+fn list<T: FromStr + Drop>(heap: Global, word: &str, mistake: Mistake) -> Result<Vec<T>, Failure>
 where
     <T as FromStr>::Err: Drop,
 {
     if word.is_empty() {
         return Ok(Vec::new(heap));
     }
+    let misuse = Misuse {
+        program: Program::Driving,
+        mistake,
+    };
     word.split(',')
         .map(|part| -> Result<T, Failure> { part.parse::<T>().map_err(|_| misuse.into()) })
         .try_collect(heap)
@@ -37,9 +40,9 @@ fn edges_of(heap: Global, file: MacroFile) -> Result<Vec<Edge>, AllocError>
 /// Prints the steps of the path, and then the place where it ends, and whether that is the guarded place.
 pub fn run(rt: &HostRuntime, file: &str, options: RunOptions) -> Result<(), Failure> {
     let heap = rt.alloc();
-    let start: Vec<i32> = list(heap, options.start, Misuse::StartNumbers)?;
-    let readings: Vec<i32> = list(heap, options.readings, Misuse::ReadingNumbers)?;
-    let path: Vec<u16> = list(heap, options.path, Misuse::PathNumbers)?;
+    let start: Vec<i32> = list(heap, options.start, Mistake::StartNumbers)?;
+    let readings: Vec<i32> = list(heap, options.readings, Mistake::ReadingNumbers)?;
+    let path: Vec<u16> = list(heap, options.path, Mistake::PathNumbers)?;
     let bytes = file_bytes(rt, file)?;
     let source = MacroFile::open(bytes.as_slice())?;
     let edges = edges_of(heap, source)?;

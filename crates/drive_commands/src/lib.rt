@@ -3,19 +3,22 @@
 #![tactic(auto)]
 
 mod drive;
-pub mod failure;
-mod files;
 
 use command_words::command::{Command, parse};
-use command_words::misuse::Misuse;
-use failure::Failure;
+use command_words::misuse::{Misuse, Mistake, Program};
+
+pub use failures::Failure;
 
 /// Does what the words ask for, where they name the command `run`. What it prints goes to standard output; a failure is
 /// for the caller to print.
 pub fn run(rt: &HostRuntime, words: &[&str]) -> Result<(), Failure> {
-    match parse(words)? {
+    let program = Program::Driving;
+    match parse(program, words)? {
         Command::Run { file, options } => drive::run(rt, file, options),
-        Command::Demo => Err(Misuse::NoSuchCommand.into()),
-        Command::Show { .. } => Err(Misuse::NoSuchCommand.into()),
+        Command::Demo | Command::Show { .. } => Err(Misuse {
+            program,
+            mistake: Mistake::NoSuchCommand,
+        }
+        .into()),
     }
 }

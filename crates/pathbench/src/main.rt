@@ -2,16 +2,13 @@
 
 #![tactic(auto)]
 
-use bench_commands::failure::Failure;
+use bench_commands::Failure;
 use std::process::ExitCode;
 use std::{env, io};
 
 fn start(rt: &HostRuntime) -> Result<(), Failure> {
     let all: Vec<String> = env::args(rt)?.skip(1).collect(rt.alloc())?;
-    let mut words = Vec::new(rt.alloc());
-    for word in all.iter() {
-        words.push(word.as_str())?;
-    }
+    let words: Vec<&str> = all.iter().map(|word| word.as_str()).collect(rt.alloc())?;
     bench_commands::run(rt, words.as_slice())
 }
 

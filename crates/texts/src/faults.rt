@@ -1,7 +1,8 @@
 //! Why a call declined, in one line. The number, the call and the spot are those that the refusal itself tells, so that
 //! the line cannot differ from what a program is told; the words say which field it is, what was found and what was asked.
+ghost use Rattle.std.specs.Option.{option_map};
 ghost use Rattle.std.specs.Prelude.{◌≡◌, Some};
-ghost use Rattle.texts.specs.Faults.{asked, call_name, field_fault_text, field_name, length_fault_text, macro_fault_text, noted_text, pack_fault_text, pack_refusal_line, read_refusal_line, room_fault_text, spot_text};
+ghost use Rattle.texts.specs.Faults.{asked, call_name, field_fault_text, field_name, length_fault_text, macro_fault_text, noted_text, pack_fault_text, pack_refusal_line, read_refusal_line, refusal_line, room_fault_text, spot_text};
 
 use macros::faults::{Call, FieldFault, LengthFault, MacroFault, Told};
 use macros::layout::Field;
@@ -58,7 +59,7 @@ fn call_name(call: Call) -> &'static str
 }
 
 /// A field's fault, as `field to is 2, must be below places`.
-#[derive(Clone, Copy)]
+#[derive(Clone, Copy, Debug)]
 pub struct FieldFaultText(pub FieldFault);
 
 impl fmt::Display for FieldFaultText {
@@ -74,7 +75,7 @@ impl fmt::Display for FieldFaultText {
 
 /// A wrong length, as `length is 15 bytes, must be 16`.
 /// Of a file too short for its header only the least length is known.
-#[derive(Clone, Copy)]
+#[derive(Clone, Copy, Debug)]
 pub struct LengthFaultText(pub LengthFault);
 
 impl fmt::Display for LengthFaultText {
@@ -92,7 +93,7 @@ impl fmt::Display for LengthFaultText {
 }
 
 /// What is wrong with a macro, with the part of the file that is at fault.
-#[derive(Clone, Copy)]
+#[derive(Clone, Copy, Debug)]
 pub struct MacroFaultText(pub MacroFault);
 
 impl fmt::Display for MacroFaultText {
@@ -108,7 +109,7 @@ impl fmt::Display for MacroFaultText {
 }
 
 /// A number that a refusal may hold, after its name and a space, or nothing.
-#[derive(Clone, Copy)]
+#[derive(Clone, Copy, Debug)]
 pub struct NotedText {
     pub name: &'static str,
     pub number: Option<usize>,
@@ -127,7 +128,7 @@ impl fmt::Display for NotedText {
 }
 
 /// Where a refusal is, as `call read bit 40 edge 0`.
-#[derive(Clone, Copy)]
+#[derive(Clone, Copy, Debug)]
 pub struct SpotText(pub Told);
 
 impl fmt::Display for SpotText {
@@ -154,7 +155,7 @@ impl fmt::Display for SpotText {
 }
 
 /// Too little memory to write into, as `room is 15 bytes, must be at least 16`.
-#[derive(Clone, Copy)]
+#[derive(Clone, Copy, Debug)]
 pub struct RoomFaultText(pub RoomFault);
 
 impl fmt::Display for RoomFaultText {
@@ -167,7 +168,7 @@ impl fmt::Display for RoomFaultText {
 }
 
 /// Why nothing was packed: a fault of the macro, or too little room.
-#[derive(Clone, Copy)]
+#[derive(Clone, Copy, Debug)]
 pub struct PackFaultText(pub PackFault);
 
 impl fmt::Display for PackFaultText {
@@ -181,30 +182,40 @@ impl fmt::Display for PackFaultText {
     }
 }
 
-/// A refusal of `read` in one line.
-#[derive(Clone, Copy)]
-pub struct ReadRefusalLine(pub ReadRefusal);
+/// A refusal in one line: its number, why it was refused, and where.
+#[derive(Clone, Copy, Debug)]
+pub struct RefusalLine<T> {
+    told: Told,
+    why: T,
+}
 
-impl fmt::Display for ReadRefusalLine {
-    ghost output = { λ t. Some (read_refusal_line t.0) };
+impl<T: fmt::Display> fmt::Display for RefusalLine<T> {
+    ghost output = { λ t. option_map (refusal_line t.told) (T.output t.why) };
 
     fn fmt<W: fmt::Write>(&self, f: &mut fmt::Formatter<W>) -> fmt::Result {
-        let told = self.0.told();
-        let words = MacroFaultText(self.0.fault);
-        write!(f, "refused {} {words} {}", told.number, SpotText(told))
+        let RefusalLine { told, why } = self;
+        write!(f, "refused {} {why} {}", told.number, SpotText(*told))
     }
 }
 
-/// A refusal of `pack` in one line.
-#[derive(Clone, Copy)]
-pub struct PackRefusalLine(pub PackRefusal);
+impl From<ReadRefusal> for RefusalLine<MacroFaultText> {
+    ghost from_gives = { λ f r. ⟦<RefusalLine<MacroFaultText> as fmt::Display>⟧.output r ≡ Some (read_refusal_line f) };
 
-impl fmt::Display for PackRefusalLine {
-    ghost output = { λ t. Some (pack_refusal_line t.0) };
+    fn from(refusal: ReadRefusal) -> RefusalLine<MacroFaultText> {
+        RefusalLine {
+            told: refusal.told(),
+            why: MacroFaultText(refusal.fault),
+        }
+    }
+}
 
-    fn fmt<W: fmt::Write>(&self, f: &mut fmt::Formatter<W>) -> fmt::Result {
-        let told = self.0.told();
-        let words = PackFaultText(self.0.fault);
-        write!(f, "refused {} {words} {}", told.number, SpotText(told))
+impl From<PackRefusal> for RefusalLine<PackFaultText> {
+    ghost from_gives = { λ f r. ⟦<RefusalLine<PackFaultText> as fmt::Display>⟧.output r ≡ Some (pack_refusal_line f) };
+
+    fn from(refusal: PackRefusal) -> RefusalLine<PackFaultText> {
+        RefusalLine {
+            told: refusal.told(),
+            why: PackFaultText(refusal.fault),
+        }
     }
 }

@@ -4,11 +4,10 @@ ghost use Rattle.texts.specs.Lines.{Describes};
 
 use crate::parts::{EdgeLine, HeaderLines};
 use reading::file::MacroFile;
-use std::alloc::Global;
-use std::fmt;
+use std::alloc::{AllocError, Global};
 
 /// The lines of a file that was read: those of its header, and then one for each edge in the order of the file.
-pub fn macro_lines(heap: Global, file: MacroFile) -> Result<String, fmt::Error>
+pub fn macro_lines(heap: Global, file: MacroFile) -> Result<String, AllocError>
     ensures { IfOk result (λ s. Describes (string_bytes s) file.entry.bytes.now) }
 {
     let mut lines = String::new(heap);

@@ -6,7 +6,7 @@ use macros::parts::{Arithmetic, Comparison, Edge, Header, Operand, Operation};
 use std::fmt;
 
 /// An operand: a constant as it is, a variable by its number, as `v0`.
-#[derive(Clone, Copy)]
+#[derive(Clone, Copy, Debug)]
 pub struct OperandText(pub Operand);
 
 impl fmt::Display for OperandText {
@@ -45,7 +45,7 @@ fn comparison_symbol(comparison: Comparison) -> &'static str
 }
 
 /// What an edge does, as `v1 := v0 + 3`.
-#[derive(Clone, Copy)]
+#[derive(Clone, Copy, Debug)]
 pub struct OperationText(pub Operation);
 
 impl fmt::Display for OperationText {
@@ -87,7 +87,7 @@ impl fmt::Display for OperationText {
 }
 
 /// An edge with its number in the macro, as `edge 3: 1 -> 2  pass if v0 > 10`.
-#[derive(Clone, Copy)]
+#[derive(Clone, Copy, Debug)]
 pub struct EdgeLine {
     pub number: usize,
     pub edge: Edge,
@@ -112,7 +112,7 @@ impl fmt::Display for EdgeLine {
 }
 
 /// The numbers of a header, one to a line, with no end of line after the last.
-#[derive(Clone, Copy)]
+#[derive(Clone, Copy, Debug)]
 pub struct HeaderLines(pub Header);
 
 impl fmt::Display for HeaderLines {

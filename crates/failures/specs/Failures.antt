@@ -1,16 +1,17 @@
--- What is said of a failure, and which failure a refused file gives.
+-- What is said of a failure.
 use Rattle.std.specs.Prelude.{ℕ, List, Some, None, Option}
-use Rattle.drive_commands.specs.declared.failure.Failure.{Failure}
-use Rattle.drive_commands.specs.declared.failure.Failure.TheVariants.{Usage, File, Read, Drive, System}
+use Rattle.failures.specs.declared.Failure.{Failure}
+use Rattle.failures.specs.declared.Failure.TheVariants.{Usage, File, Read, Pack, Drive, System}
 use Rattle.command_words.specs.Misuses.{misuse_text}
 use Rattle.drive_texts.specs.Halts.{halt_line}
-use Rattle.texts.specs.Faults.{read_refusal_line}
+use Rattle.texts.specs.Faults.{pack_refusal_line, read_refusal_line}
 
 -- a misuse, a refusal and a halt are told in these words; of the system's own words nothing is stated
 abbrev pub failure_text : Failure → Option (List ℕ)
 failure_text (Usage m) = Some (misuse_text m)
 failure_text (File name e) = None
 failure_text (Read r) = Some (read_refusal_line r)
+failure_text (Pack r) = Some (pack_refusal_line r)
 failure_text (Drive h) = Some (halt_line h)
 failure_text (System e) = None
 
@@ -19,5 +20,6 @@ abbrev pub OfSystem : Failure → Type 0
 OfSystem (Usage m) = ⊥
 OfSystem (File name e) = ⊥
 OfSystem (Read r) = ⊥
+OfSystem (Pack r) = ⊥
 OfSystem (Drive h) = ⊥
 OfSystem (System e) = Unit {0}

@@ -1,15 +1,19 @@
 //! Why a command did not do its work, and how that is told on standard error.
-ghost use Rattle.drive_commands.specs.Failures.{OfSystem, failure_text};
-ghost use Rattle.drive_commands.specs.declared.failure.Failure.TheVariants.{Drive as not_driven, Read as not_read, Usage as misused};
+
+#![tactic(auto)]
+
+ghost use Rattle.failures.specs.Failures.{OfSystem, failure_text};
+ghost use Rattle.failures.specs.declared.Failure.TheVariants.{Drive as not_driven, Pack as not_packed, Read as not_read, Usage as misused};
 ghost use Rattle.std.specs.Prelude.{◌≡◌};
 
 use command_words::misuse::Misuse;
 use drive_texts::halts::HaltLine;
+use packing::PackRefusal;
 use reading::ReadRefusal;
 use runs::halts::DriveHalt;
 use std::alloc::{AllocError, AllocFailed};
-use std::{fmt, io};
-use texts::faults::ReadRefusalLine;
+use std::{fmt, fs, io};
+use texts::faults::RefusalLine;
 
 /// What a command answers where it fails. A refusal is kept whole, so that nothing of it is lost on the way to its line.
 #[derive(Drop)]
@@ -17,6 +21,7 @@ pub enum Failure {
     Usage(Misuse),
     File { name: String, error: io::Error },
     Read(ReadRefusal),
+    Pack(PackRefusal),
     Drive(DriveHalt),
     System(io::Error),
 }
@@ -28,7 +33,8 @@ impl fmt::Display for Failure {
         match self {
             Failure::Usage(misuse) => write!(f, "{misuse}"),
             Failure::File { name, error } => write!(f, "cannot read {name}: {error}"),
-            Failure::Read(refusal) => write!(f, "{}", ReadRefusalLine(*refusal)),
+            Failure::Read(refusal) => write!(f, "{}", RefusalLine::from(*refusal)),
+            Failure::Pack(refusal) => write!(f, "{}", RefusalLine::from(*refusal)),
             Failure::Drive(halt) => write!(f, "{}", HaltLine(*halt)),
             Failure::System(error) => write!(f, "{error}"),
         }
@@ -51,8 +57,16 @@ impl From<ReadRefusal> for Failure {
     }
 }
 
+impl From<PackRefusal> for Failure {
+    ghost from_gives = { λ f r. r ≡ not_packed f };
+
+    fn from(refusal: PackRefusal) -> Failure {
+        Failure::Pack(refusal)
+    }
+}
+
 impl From<DriveHalt> for Failure {
-    ghost from_gives = { λ f r. r ≡ not_driven f };
+    ghost from_gives = { λ h r. r ≡ not_driven h };
 
     fn from(halt: DriveHalt) -> Failure {
         Failure::Drive(halt)
@@ -88,5 +102,16 @@ impl From<fmt::Error> for Failure {
 
     fn from(error: fmt::Error) -> Failure {
         Failure::System(error.into())
+    }
+}
+
+/// The bytes of a file, or a failure that names the file.
+pub fn file_bytes(rt: &HostRuntime, name: &str) -> Result<Vec<u8>, Failure> {
+    match fs::read(rt, name) {
+        Ok(bytes) => Ok(bytes),
+        Err(error) => {
+            let name = String::from_str(rt.alloc(), name)?;
+            Err(Failure::File { name, error })
+        }
     }
 }
