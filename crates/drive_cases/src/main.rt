@@ -1,8 +1,8 @@
 //! Shows a macro, and then runs the command `run` on many lists of words, in one run.
-//! What a failure says goes to standard output here, so that it can be compared too.
 
 #![tactic(auto)]
 
+use cases::case;
 use std::io;
 
 /// Paths that are driven to their end.
@@ -41,55 +41,37 @@ const MISUSED: [&str; 12] = [
     "run variables.bin --start 1 --path 0",
 ];
 
-fn print_words(rt: &HostRuntime, words: &[&str]) -> io::Result<()> {
-    rt.print("pathbench")?;
-    for word in words.iter() {
-        print!(rt; " {word}")?;
-    }
-    rt.println("")
-}
-
-/// One list of words, what the command prints, and then how it ended.
-fn case(rt: &HostRuntime, words: &[&str]) -> io::Result<()> {
-    print_words(rt, words)?;
-    match drive_commands::run(rt, words) {
-        Ok(()) => rt.println("done"),
-        Err(failure) => rt.println(failure),
-    }
-}
-
 /// Each line is a list of words, with spaces between them.
 fn run_all(rt: &HostRuntime, lines: &[&str]) -> io::Result<()> {
-    for line in lines.iter() {
+    for line in lines {
         let words: Vec<&str> = line.split_whitespace().collect(rt.alloc())?;
-        case(rt, words.as_slice())?;
+        case(rt, drive_commands::run, words.as_slice())?;
     }
     Ok(())
 }
 
-/// The macro that most paths are driven through.
-fn show_loop(rt: &HostRuntime) -> io::Result<()> {
-    let words = ["show", "loop.bin"];
-    print_words(rt, &words)?;
-    match bench_commands::run(rt, &words) {
-        Ok(()) => rt.println("done"),
-        Err(failure) => rt.println(failure),
-    }
-}
-
 fn cases(rt: &HostRuntime) -> io::Result<()> {
-    show_loop(rt)?;
+    // The macro that most paths are driven through.
+    case(rt, bench_commands::run, &["show", "loop.bin"])?;
     run_all(rt, &DRIVEN)?;
-    case(rt, &["run", "a.bin", "--path", "", "--start", "7"])?;
+    case(
+        rt,
+        drive_commands::run,
+        &["run", "a.bin", "--path", "", "--start", "7"],
+    )?;
     run_all(rt, &HALTED)?;
-    case(rt, &["run", "a.bin", "--start", "", "--path", ""])?;
+    case(
+        rt,
+        drive_commands::run,
+        &["run", "a.bin", "--start", "", "--path", ""],
+    )?;
     run_all(rt, &MISUSED)?;
-    case(rt, &[])?;
-    case(rt, &["zap"])?;
-    case(rt, &["Show", "a.bin"])?;
-    case(rt, &["show"])?;
-    case(rt, &["show", "a.bin", "b.bin"])?;
-    case(rt, &["demo", "a.bin"])
+    case(rt, drive_commands::run, &[])?;
+    case(rt, drive_commands::run, &["zap"])?;
+    case(rt, drive_commands::run, &["Show", "a.bin"])?;
+    case(rt, drive_commands::run, &["show"])?;
+    case(rt, drive_commands::run, &["show", "a.bin", "b.bin"])?;
+    case(rt, drive_commands::run, &["demo", "a.bin"])
 }
 
 fn main(rt: HostRuntime) -> io::Result<()> {

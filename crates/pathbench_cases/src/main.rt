@@ -1,8 +1,9 @@
 //! Runs the commands of the server program on many lists of words, in one run.
-//! What a failure says goes to standard output here, so that it can be compared too.
 
 #![tactic(auto)]
 
+use bench_commands::run;
+use cases::case;
 use std::io;
 
 /// Files that hold a macro.
@@ -36,26 +37,9 @@ const REFUSED: [&str; 24] = [
     "second_edge.bin",
 ];
 
-fn print_words(rt: &HostRuntime, words: &[&str]) -> io::Result<()> {
-    rt.print("pathbench")?;
-    for word in words.iter() {
-        print!(rt; " {word}")?;
-    }
-    rt.println("")
-}
-
-/// One list of words, what the command prints, and then how it ended.
-fn case(rt: &HostRuntime, words: &[&str]) -> io::Result<()> {
-    print_words(rt, words)?;
-    match bench_commands::run(rt, words) {
-        Ok(()) => rt.println("done"),
-        Err(failure) => rt.println(failure),
-    }
-}
-
 fn show_all(rt: &HostRuntime, files: &[&str]) -> io::Result<()> {
-    for file in files.iter() {
-        case(rt, &["show", *file])?;
+    for file in files {
+        case(rt, run, &["show", *file])?;
     }
     Ok(())
 }
@@ -63,14 +47,14 @@ fn show_all(rt: &HostRuntime, files: &[&str]) -> io::Result<()> {
 fn cases(rt: &HostRuntime) -> io::Result<()> {
     show_all(rt, &SHOWN)?;
     show_all(rt, &REFUSED)?;
-    case(rt, &["show", "none.bin"])?;
-    case(rt, &[])?;
-    case(rt, &["zap"])?;
-    case(rt, &["Show", "a.bin"])?;
-    case(rt, &["show"])?;
-    case(rt, &["show", "a.bin", "b.bin"])?;
-    case(rt, &["demo", "a.bin"])?;
-    case(rt, &["demo"])
+    case(rt, run, &["show", "none.bin"])?;
+    case(rt, run, &[])?;
+    case(rt, run, &["zap"])?;
+    case(rt, run, &["Show", "a.bin"])?;
+    case(rt, run, &["show"])?;
+    case(rt, run, &["show", "a.bin", "b.bin"])?;
+    case(rt, run, &["demo", "a.bin"])?;
+    case(rt, run, &["demo"])
 }
 
 fn main(rt: HostRuntime) -> io::Result<()> {
