@@ -2,6 +2,7 @@
 use Rattle.std.specs.Prelude.{◌≡◌, ℕ, ◌+◌, ◌*◌, ◌/◌, ◌%◌, ◌<◌, Bool, true, false, cond, ◌&&◌, ℤ, pos, Some, None, Option, FitsSigned, ◌==◌, int_rem, refl}
 use Rattle.std.proofs.Common.{sym, ap, subst, ◌∙◌, arith, to_z, of_z}
 use Rattle.std.specs.Int.{w32}
+use Rattle.std.proofs.lemmas.Grind.{common_steps}
 use Rattle.std.proofs.lemmas.Int.{ints, of_z-to_z, to_z-of_z}
 use Rattle.std.proofs.lemmas.Bool.{and_parts, eqb-true, false≢true}
 use Rattle.macros.specs.declared.parts.Arithmetic.{Arithmetic}
@@ -121,4 +122,4 @@ exact_laws = record {
 }
 
 pub exact_named : Named exact_ops
-exact_named = record { some_number = omega arith; digits = (omega arith, tt); short = λ _. omega arith }
+exact_named = record { some_number = omega arith; digits = grind (arith, common_steps); short = λ _. omega arith }

@@ -114,8 +114,8 @@ impl Kind for Exact {
         1
     }
 
-    fn name(i: usize) -> u8 {
-        if i == 0 { 1 } else { 0 }
+    fn name(i: usize) -> Option<u8> {
+        (i == 0).then_some(1)
     }
 }
 

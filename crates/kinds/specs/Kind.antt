@@ -1,6 +1,6 @@
 -- A kind of value: what a value stands for, the operations on values, and the laws that these keep.
 use Rattle.std.specs.Prelude.{◌≡◌, ℕ, ◌^◌, ◌<◌, ◌≤◌, Bool, true, List, [], ◌∷◌, length, ℤ, Some, None, Option}
-use Rattle.std.specs.List.{AllByRecursion}
+use Rattle.std.specs.List.{All}
 use Rattle.macros.specs.declared.parts.Arithmetic.{Arithmetic}
 use Rattle.macros.specs.declared.parts.Comparison.{Comparison}
 use Rattle.macros.specs.Number.{Number}
@@ -60,7 +60,7 @@ pub record Laws {V P : Type 0} (o : Operations V P) : Type 0 where
 -- number goes with a W of at least 2; this too is asked only up to W = 4096.
 pub record Named {V P : Type 0} (o : Operations V P) : Type 0 where
   pub some_number : 0 < length o.name
-  pub digits : AllByRecursion (λ d. d < 16) o.name
+  pub digits : All (λ d. d < 16) o.name
   pub short : o.width ≤ 4096 → length o.name < o.width
 
 -- The name of a kind that is not made of other kinds is its code number, 1 to 14; its W is at least 2.

@@ -2,7 +2,7 @@
 
 #![tactic(auto)]
 
-ghost use Rattle.std.specs.Prelude.{◌≡◌, ◌+◌, ◌*◌, ◌^◌, ◌<◌, ◌≤◌, length, slice_index};
+ghost use Rattle.std.specs.Prelude.{◌≡◌, ◌+◌, ◌*◌, ◌^◌, ◌<◌, ◌≤◌, length, slice_get};
 ghost use Rattle.bits.specs.Field.{field, put};
 ghost use Rattle.kinds.specs.Codes.{ReadWrites, WrittenReads};
 ghost use Rattle.kinds.specs.Kind.{Laws, Named, Operations};
@@ -50,23 +50,28 @@ pub trait Kind: Copy {
 
     /// Makes the W bits from place `at` on the value's code, and leaves every other bit as it is.
     fn write(self, bytes: &mut [u8], at: usize)
-        requires { (ops.width ≤ 4096) × ((at + ops.width ≤ 8 * length bytes.old) × (at + ops.width < 2 ^ 64)) }
+        requires limited { ops.width ≤ 4096 }
+        requires inside { at + ops.width ≤ 8 * length bytes.old }
+        requires end_fits { at + ops.width < 2 ^ 64 }
         ensures { bytes.new ≡ put bytes.old at ops.width (ops.write self) };
 
     /// The value whose code the W bits from place `at` on are; none if they are no code.
     fn read(bytes: &[u8], at: usize) -> Option<Self>
-        requires { (ops.width ≤ 4096) × ((at + ops.width ≤ 8 * length bytes.now) × (at + ops.width < 2 ^ 64)) }
+        requires limited { ops.width ≤ 4096 }
+        requires inside { at + ops.width ≤ 8 * length bytes.now }
+        requires end_fits { at + ops.width < 2 ^ 64 }
         ensures { result ≡ ops.read (field bytes.now at ops.width) };
 
-    /// How many numbers of 4 bits the kind's name in a sheet has.
+    /// How many numbers of 4 bits the kind's name in a sheet has. The name is told number by number, and is no
+    /// `&'static [u8]`: a kind that is made of two kinds joins their names, for which it has no memory.
     fn name_length() -> usize
         requires { ops.width ≤ 4096 }
         ensures { result ≡ length ops.name };
 
-    /// Number `i` of the name, the code number first; 0 beyond its end.
-    fn name(i: usize) -> u8
+    /// Number `i` of the name, the code number first; none beyond its end.
+    fn name(i: usize) -> Option<u8>
         requires { ops.width ≤ 4096 }
-        ensures { result ≡ slice_index ops.name i };
+        ensures { result ≡ slice_get ops.name i };
 
     ghost laws: { Laws ops };
 

@@ -3,6 +3,7 @@ use Rattle.std.specs.Prelude.{◌≡◌, ℕ, ◌/◌, ◌%◌, ◌^◌, ◌<◌
 use Rattle.std.proofs.Common.{sym, ap, ap₂, subst, ◌∙◌, arith, of_z, to_z}
 use Rattle.std.specs.Int.Signed.{le_z_yes, lt_z_yes, mag_rem, ≤ℤ_refl}
 use Rattle.std.specs.Int.{int_max, int_min, w32}
+use Rattle.std.proofs.lemmas.Grind.{common_steps}
 use Rattle.std.proofs.lemmas.Int.{ints, clamps, of_z-to_z, to_z-of_z}
 use Rattle.std.proofs.lemmas.Bool.{and_from, and_parts, false≢true}
 use Rattle.macros.specs.declared.parts.Arithmetic.{Arithmetic}
@@ -152,4 +153,4 @@ span_laws = record {
 }
 
 pub span_named : Named span_ops
-span_named = record { some_number = omega arith; digits = (omega arith, tt); short = λ _. omega arith }
+span_named = record { some_number = omega arith; digits = grind (arith, common_steps); short = λ _. omega arith }

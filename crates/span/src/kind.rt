@@ -71,8 +71,8 @@ impl Kind for Span {
         1
     }
 
-    fn name(i: usize) -> u8 {
-        if i == 0 { 2 } else { 0 }
+    fn name(i: usize) -> Option<u8> {
+        (i == 0).then_some(2)
     }
 }
 
