@@ -1,9 +1,8 @@
 //! The operations of the kind exact.
-ghost use Rattle.std.specs.Prelude.{◌≡◌, ◌+◌, ◌*◌, ◌/◌, ◌%◌, ◌^◌, ◌<◌, ◌≤◌, length};
-ghost use Rattle.bits.specs.Field.{field, put};
-ghost use Rattle.exact.specs.Exact.{decoded, exact_ops, only_of, only_result};
-ghost use Rattle.numbers.specs.Arithmetic.{computed};
+ghost use Rattle.std.specs.Prelude.{◌≡◌};
+ghost use Rattle.exact.specs.Exact.{exact_ops, only_of, only_result};
 ghost use Rattle.exact.specs.ExactLaws.{exact_laws, exact_named};
+ghost use Rattle.numbers.specs.Arithmetic.{computed};
 
 use super::value::{Exact, ExactRecord, Number};
 use bits::{read_field, write_field};
@@ -100,14 +99,17 @@ impl Kind for Exact {
     }
 
     fn write(self, bytes: &mut [u8], at: usize) {
-        match self {
-            Exact::Only(number) => write_marked(bytes, at, 1, number.value.cast_unsigned()),
-            Exact::Unknown => write_marked(bytes, at, 0, 0),
-        }
+        // The code is the plain record: a bit for whether the number is known, and then the number.
+        let plain = self.keep();
+        write_field(bytes, at, 1, u32::from(plain.known));
+        write_field(bytes, at + 1, 32, plain.number.cast_unsigned());
     }
 
     fn read(bytes: &[u8], at: usize) -> Option<Exact> {
-        decode(read_mark(bytes, at), read_number(bytes, at))
+        Exact::recall(ExactRecord {
+            known: read_field(bytes, at, 1) == 1,
+            number: read_field(bytes, at + 1, 32).cast_signed(),
+        })
     }
 
     fn name_length() -> usize {
@@ -132,42 +134,4 @@ fn worked_out(arithmetic: Arithmetic, left: Number, right: Number) -> Option<Exa
 {
     let result = compute(arithmetic, left.value, right.value)?;
     Some(exactly(result))
-}
-
-/// Makes the 33 bits from place `at` on the mark, of 1 bit, and then `number`.
-fn write_marked(bytes: &mut [u8], at: usize, mark: u32, number: u32)
-    requires { (at + 33 ≤ 8 * length bytes.old) × (at + 33 < 2 ^ 64) }
-    ensures { bytes.new ≡ put bytes.old at 33 (mark * 4294967296 + number) }
-{
-    write_field(bytes, at, 1, mark);
-    write_field(bytes, at + 1, 32, number);
-}
-
-/// The mark of the code at place `at`: its first bit.
-fn read_mark(bytes: &[u8], at: usize) -> u32
-    requires { at + 33 ≤ 8 * length bytes.now }
-    ensures { result ≡ field bytes.now at 33 / 4294967296 }
-{
-    read_field(bytes, at, 1)
-}
-
-/// The 32 bits after the mark of the code at place `at`.
-fn read_number(bytes: &[u8], at: usize) -> u32
-    requires { (at + 33 ≤ 8 * length bytes.now) × (at + 33 < 2 ^ 64) }
-    ensures { result ≡ field bytes.now at 33 % 4294967296 }
-{
-    read_field(bytes, at + 1, 32)
-}
-
-/// The value that the mark and the 32 bits after it are the code of; none if they are no code.
-fn decode(mark: u32, number: u32) -> Option<Exact>
-    ensures { result ≡ decoded mark number }
-{
-    if mark == 1 {
-        Some(exactly(number.cast_signed()))
-    } else if mark == 0 && number == 0 {
-        Some(Exact::Unknown)
-    } else {
-        None
-    }
 }
