@@ -1,8 +1,6 @@
 //! The operations of the kind exact.
-ghost use Rattle.std.specs.Prelude.{◌≡◌};
-ghost use Rattle.exact.specs.Exact.{exact_ops, only_of, only_result};
+ghost use Rattle.exact.specs.Exact.{exact_ops};
 ghost use Rattle.exact.specs.ExactLaws.{exact_laws, exact_named};
-ghost use Rattle.numbers.specs.Arithmetic.{computed};
 
 use super::value::{Exact, ExactRecord, Number};
 use bits::{read_field, write_field};
@@ -24,51 +22,33 @@ impl Kind for Exact {
     }
 
     fn only(number: i32) -> Exact {
-        exactly(number)
+        Exact::Only(Number { value: number })
     }
 
     fn combine(arithmetic: Arithmetic, left: Exact, right: Exact) -> Option<Exact> {
-        match right {
-            Exact::Only(right_number) => match left {
-                Exact::Only(left_number) => worked_out(arithmetic, left_number, right_number),
-                Exact::Unknown => match arithmetic {
-                    Arithmetic::Remainder if right_number.value == 0 => None,
-                    // A product with 0 stays unknown too.
-                    _ => Some(Exact::Unknown),
-                },
-            },
-            Exact::Unknown => Some(Exact::Unknown),
+        match (arithmetic, left, right) {
+            (_, Exact::Only(left), Exact::Only(right)) => {
+                Some(Exact::only(compute(arithmetic, left.value, right.value)?))
+            }
+            (Arithmetic::Remainder, Exact::Unknown, Exact::Only(right)) if right.value == 0 => None,
+            // A product with 0 stays unknown too.
+            _ => Some(Exact::Unknown),
         }
     }
 
     fn narrow(comparison: Comparison, first: Exact, second: Exact) -> Option<Exact> {
-        match second {
-            Exact::Only(second_number) => match first {
-                Exact::Only(first_number) => {
-                    if compare(comparison, first_number.value, second_number.value) {
-                        Some(first)
-                    } else {
-                        None
-                    }
-                }
-                Exact::Unknown => match comparison {
-                    Comparison::Equal => Some(second),
-                    _ => Some(first),
-                },
-            },
+        match (comparison, first, second) {
+            (_, Exact::Only(number), Exact::Only(other)) => {
+                compare(comparison, number.value, other.value).then_some(first)
+            }
+            (Comparison::Equal, Exact::Unknown, Exact::Only(_)) => Some(second),
             // A comparison with unknown never fails.
-            Exact::Unknown => Some(first),
+            _ => Some(first),
         }
     }
 
     fn covered(self, other: Exact) -> bool {
-        match other {
-            Exact::Only(other_number) => match self {
-                Exact::Only(number) => number.value == other_number.value,
-                Exact::Unknown => false,
-            },
-            Exact::Unknown => true,
-        }
+        other == Exact::Unknown || self == other
     }
 
     fn keep(self) -> ExactRecord {
@@ -86,7 +66,7 @@ impl Kind for Exact {
 
     fn recall(plain: ExactRecord) -> Option<Exact> {
         if plain.known {
-            Some(exactly(plain.number))
+            Some(Exact::only(plain.number))
         } else if plain.number == 0 {
             Some(Exact::Unknown)
         } else {
@@ -119,19 +99,4 @@ impl Kind for Exact {
     fn name(i: usize) -> Option<u8> {
         (i == 0).then_some(1)
     }
-}
-
-/// The value for one number.
-fn exactly(number: i32) -> Exact
-    ensures { result ≡ only_of number }
-{
-    Exact::Only(Number { value: number })
-}
-
-/// The value for what the run works out from two numbers; none if it works out no number.
-fn worked_out(arithmetic: Arithmetic, left: Number, right: Number) -> Option<Exact>
-    ensures { result ≡ only_result (computed arithmetic left.value right.value) }
-{
-    let result = compute(arithmetic, left.value, right.value)?;
-    Some(exactly(result))
 }
