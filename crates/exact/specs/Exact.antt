@@ -3,10 +3,11 @@ use Rattle.std.specs.Prelude.{◌≡◌, ℕ, ◌+◌, ◌/◌, ◌%◌, ◌<◌
 use Rattle.std.proofs.Common.{ltb→lt, to_z, of_z}
 use Rattle.std.specs.Int.Signed.{mag}
 use Rattle.std.specs.Int.{w32}
+use Rattle.std.specs.Option.{option_map}
 use Rattle.macros.specs.declared.parts.Arithmetic.{Arithmetic}
-use Rattle.macros.specs.declared.parts.Arithmetic.TheVariants.{Add, Subtract, Multiply, Remainder}
+use Rattle.macros.specs.declared.parts.Arithmetic.TheVariants.{Remainder}
 use Rattle.macros.specs.declared.parts.Comparison.{Comparison}
-use Rattle.macros.specs.declared.parts.Comparison.TheVariants.{Equal, NotEqual, Less, AtMost, Greater, AtLeast}
+use Rattle.macros.specs.declared.parts.Comparison.TheVariants.{Equal}
 use Rattle.numbers.specs.Arithmetic.{computed, holds, same_int}
 use Rattle.kinds.specs.Kind.{Operations}
 use Rattle.exact.specs.declared.value.Exact.{Exact}
@@ -29,17 +30,14 @@ only_of k = only_if k (nat_lt (mag k) 2147483648) (ltb→lt (mag k) 2147483648)
 
 -- the value for what the run works out, if it works out a number
 abbrev pub only_result : Option ℤ → Option Exact
-only_result None = None
-only_result (Some k) = Some (only_of k)
+only_result o = option_map only_of o
 
 -- Two known numbers give the run's result. With unknown on either side the answer is unknown, but a remainder by only 0
 -- is none whatever the left value is.
 abbrev pub combined : Arithmetic → Exact → Exact → Option Exact
 combined a (Only j) (Only k) = only_result (computed a j.value k.value)
-combined Add Unknown (Only k) = Some Unknown
-combined Subtract Unknown (Only k) = Some Unknown
-combined Multiply Unknown (Only k) = Some Unknown
 combined Remainder Unknown (Only k) = cond (same_int k.value (pos 0)) None (Some Unknown)
+combined a Unknown (Only k) = Some Unknown
 combined a (Only j) Unknown = Some Unknown
 combined a Unknown Unknown = Some Unknown
 
@@ -48,11 +46,7 @@ combined a Unknown Unknown = Some Unknown
 abbrev pub narrowed : Comparison → Exact → Exact → Option Exact
 narrowed c (Only j) (Only k) = cond (holds c j.value k.value) (Some (Only j)) None
 narrowed Equal Unknown (Only k) = Some (Only k)
-narrowed NotEqual Unknown (Only k) = Some Unknown
-narrowed Less Unknown (Only k) = Some Unknown
-narrowed AtMost Unknown (Only k) = Some Unknown
-narrowed Greater Unknown (Only k) = Some Unknown
-narrowed AtLeast Unknown (Only k) = Some Unknown
+narrowed c Unknown (Only k) = Some Unknown
 narrowed c (Only j) Unknown = Some (Only j)
 narrowed c Unknown Unknown = Some Unknown
 

@@ -1,15 +1,15 @@
 -- What `only_of` answers.
 use Rattle.std.specs.Prelude.{◌≡◌, ◌<◌, Bool, true, false, T, ℤ, nat_lt, refl}
-use mathlib.Core.HLevel.{is_prop→PathP}
+use denote.Struct.Record.{values_one}
 use Rattle.std.proofs.Common.{sym, ap, subst, ltb→lt, lt→ltb}
-use Rattle.std.proofs.Math.Bridge.{le_prop}
+use Rattle.exact.specs.contracts.value.Number.{struct, the_propositions}
 use Rattle.std.specs.Int.Signed.{mag}
 use Rattle.exact.specs.declared.value.Number.{Number}
 use Rattle.exact.specs.declared.value.Exact.TheVariants.{Only}
 use Rattle.exact.specs.Exact.{Means, only_if, only_of}
 
 same_number : (m n : Number) → m.value ≡ n.value → m ≡ n
-same_number m n p = λ i. record { value = p i; fits = is_prop→PathP (λ j. mag (p j) < 2147483648) (λ j. le_prop) m.fits n.fits i }
+same_number m n p = values_one struct the_propositions m n (λ i. (p i, tt))
 
 only_held : (n : Number) (k : ℤ) (held : Bool) (fits : T held → mag k < 2147483648) → n.value ≡ k → T held → only_if k held fits ≡ Only n
 only_held n k true fits e t = ap Only (same_number _ n (sym e))
