@@ -1,5 +1,5 @@
 -- The laws of the kind span.
-use Rattle.std.specs.Prelude.{◌≡◌, ℕ, ◌/◌, ◌%◌, ◌^◌, ◌<◌, Bool, true, false, cond, not, ◌&&◌, T, ℤ, pos, ◌+ℤ◌, ◌-ℤ◌, ◌*ℤ◌, ◌≤ℤ◌, ◌<ℤ◌, Some, None, ◌≢◌, int_le, int_rem, refl}
+use Rattle.std.specs.Prelude.{◌≡◌, ℕ, ◌+◌, ◌*◌, ◌/◌, ◌%◌, ◌^◌, ◌<◌, Bool, true, false, cond, not, ◌&&◌, T, ℤ, pos, ◌+ℤ◌, ◌-ℤ◌, ◌*ℤ◌, ◌≤ℤ◌, ◌<ℤ◌, Some, None, ◌≢◌, int_le, int_rem, refl}
 use Rattle.std.proofs.Common.{sym, ap, ap₂, subst, ◌∙◌, arith, of_z, to_z}
 use Rattle.std.specs.Int.Signed.{le_z_yes, lt_z_yes, mag_rem, ≤ℤ_refl}
 use Rattle.std.specs.Int.{int_max, int_min, w32}
@@ -15,7 +15,6 @@ use Rattle.numbers.specs.Arithmetic.{computed, holds, same_int}
 use Rattle.kinds.specs.Kind.{Laws, Named, Stands}
 use Rattle.span.specs.declared.value.Span.{Span}
 use Rattle.span.specs.Span.{Between, code_of, combined, decoded, greatest_of_4, is_single, is_within, is_zero, least_of_4, narrowed, single_span, span_of, span_ops, whole_range, without}
-use Rattle.span.specs.Codes.{first_half, second_half}
 use Rattle.span.specs.Made.{ends_of_span, in_whole, number_between, single_stands, span_of_ends, span_stands, wrapped_stands}
 use Rattle.span.specs.Products.{product_from_least, product_to_greatest}
 use Rattle.numbers.proofs.Same.{same_is, same_yes}
@@ -114,6 +113,13 @@ bits_below k f = omega (arith, ints)
 
 bits_back : (k : ℤ) → Number k → to_z w32 (of_z w32 k) ≡ k
 bits_back k f = to_z-of_z w32 k (record { sfits = f })
+
+-- the two halves of a number of 64 bits
+first_half : (a b : ℕ) → a < 4294967296 → b < 4294967296 → (a * 4294967296 + b) / 4294967296 % 4294967296 ≡ a
+first_half a b p q = omega arith
+
+second_half : (a b : ℕ) → b < 4294967296 → (a * 4294967296 + b) % 4294967296 ≡ b
+second_half a b q = omega arith
 
 code_fits : (s : Span) → code_of s < 2 ^ 64
 code_fits s =

@@ -3,10 +3,10 @@ ghost use Rattle.kinds.specs.Kind.{Simple};
 ghost use Rattle.span.specs.Span.{span_ops};
 ghost use Rattle.span.specs.Laws.{span_laws, span_named};
 
-use super::code::{read_record, write_record};
 use super::combine::{difference, product, remainder, sum};
 use super::narrow::narrow;
 use super::value::{Span, SpanRecord};
+use bits::{read_field, write_field};
 use kinds::Kind;
 use macros::parts::{Arithmetic, Comparison};
 
@@ -52,7 +52,7 @@ impl Kind for Span {
     }
 
     fn recall(plain: SpanRecord) -> Option<Span> {
-        Span::between(plain.low as i64, plain.high as i64)
+        Span::between(i64::from(plain.low), i64::from(plain.high))
     }
 
     fn width() -> usize {
@@ -60,11 +60,16 @@ impl Kind for Span {
     }
 
     fn write(self, bytes: &mut [u8], at: usize) {
-        write_record(self.keep(), bytes, at);
+        // The code is the plain record: low, and then high.
+        write_field(bytes, at, 32, self.low.cast_unsigned());
+        write_field(bytes, at + 32, 32, self.high.cast_unsigned());
     }
 
     fn read(bytes: &[u8], at: usize) -> Option<Span> {
-        Span::recall(read_record(bytes, at))
+        Span::recall(SpanRecord {
+            low: read_field(bytes, at, 32).cast_signed(),
+            high: read_field(bytes, at + 32, 32).cast_signed(),
+        })
     }
 
     fn name_length() -> usize {

@@ -2,7 +2,6 @@
 
 #![tactic(auto)]
 
-mod code;
 mod combine;
 mod full;
 pub mod kind;
