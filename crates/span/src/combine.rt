@@ -1,33 +1,40 @@
-//! What the run's arithmetic makes of two spans.
+//! What the run's arithmetic makes of two spans, a..b on the left and c..d on the right.
 //! The run wraps a result that does not fit 32 bits, so a span that does not fit them becomes the span of every number.
 ghost use Rattle.span.specs.Span.{difference_of, greatest_of_4, least_of_4, product_of, span_remainder, sum_of};
 ghost use Rattle.std.specs.Prelude.{◌≡◌};
 
-use super::full::{minus, plus, times};
 use super::value::Span;
 use macros::parts::Arithmetic;
 use numbers::compute;
 
+#[tactic(auto, using(crate::proofs::Wide::wide))]
 pub(crate) fn sum(left: Span, right: Span) -> Span
     ensures { result ≡ sum_of left right }
 {
-    Span::between_or_whole(plus(left.low, right.low), plus(left.high, right.high))
+    let (a, b) = left.ends();
+    let (c, d) = right.ends();
+    Span::between_or_whole(a + c, b + d)
 }
 
+#[tactic(auto, using(crate::proofs::Wide::wide))]
 pub(crate) fn difference(left: Span, right: Span) -> Span
     ensures { result ≡ difference_of left right }
 {
-    Span::between_or_whole(minus(left.low, right.high), minus(left.high, right.low))
+    let (a, b) = left.ends();
+    let (c, d) = right.ends();
+    Span::between_or_whole(a - d, b - c)
 }
 
+#[tactic(auto, using(crate::proofs::Wide::wide))]
 pub(crate) fn product(left: Span, right: Span) -> Span
     ensures { result ≡ product_of left right }
 {
-    let a = times(left.low, right.low);
-    let b = times(left.low, right.high);
-    let c = times(left.high, right.low);
-    let d = times(left.high, right.high);
-    Span::between_or_whole(least(a, b, c, d), greatest(a, b, c, d))
+    let (a, b) = left.ends();
+    let (c, d) = right.ends();
+    Span::between_or_whole(
+        least(a * c, a * d, b * c, b * d),
+        greatest(a * c, a * d, b * c, b * d),
+    )
 }
 
 fn least(a: i64, b: i64, c: i64, d: i64) -> i64
@@ -50,10 +57,7 @@ pub(crate) fn remainder(left: Span, right: Span) -> Option<Span>
         return None;
     }
     if left.is_single() && right.is_single() {
-        match compute(Arithmetic::Remainder, left.low, right.low) {
-            Some(number) => Some(Span::single(number)),
-            None => None,
-        }
+        compute(Arithmetic::Remainder, left.low, right.low).map(Span::single)
     } else {
         Some(Span::whole())
     }

@@ -3,7 +3,6 @@
 #![tactic(auto)]
 
 mod combine;
-mod full;
 pub mod kind;
 mod make;
 mod narrow;

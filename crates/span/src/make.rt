@@ -1,4 +1,4 @@
-//! How a span is made from its ends.
+//! How a span is made from its ends, and what these are.
 ghost use Rattle.span.specs.Span.{is_single, or_whole, single_span, span_of, whole_range};
 ghost use Rattle.std.specs.Prelude.{◌≡◌};
 
@@ -29,11 +29,10 @@ impl Span {
     pub(crate) fn between(from: i64, to: i64) -> Option<Span>
         ensures { result ≡ span_of from to }
     {
-        if from <= to && from >= i32::MIN as i64 && to <= i32::MAX as i64 {
-            Some(Span {
-                low: from as i32,
-                high: to as i32,
-            })
+        let low = i32::try_from(from).ok()?;
+        let high = i32::try_from(to).ok()?;
+        if low <= high {
+            Some(Span { low, high })
         } else {
             None
         }
@@ -43,10 +42,15 @@ impl Span {
     pub(crate) fn between_or_whole(from: i64, to: i64) -> Span
         ensures { result ≡ or_whole (span_of from to) }
     {
-        match Span::between(from, to) {
-            Some(span) => span,
-            None => Span::whole(),
-        }
+        Span::between(from, to).unwrap_or(Span::whole())
+    }
+
+    /// Both ends, in a type that holds what the tables make of two ends.
+    pub(crate) fn ends(self) -> (i64, i64)
+        ensures low { result.0 ≡ self.low }
+        ensures high { result.1 ≡ self.high }
+    {
+        (i64::from(self.low), i64::from(self.high))
     }
 
     pub(crate) fn is_single(self) -> bool

@@ -2,7 +2,6 @@
 ghost use Rattle.span.specs.Span.{narrowed, without};
 ghost use Rattle.std.specs.Prelude.{◌≡◌};
 
-use super::full::{minus, plus};
 use super::value::Span;
 use macros::parts::Comparison;
 
@@ -10,14 +9,14 @@ use macros::parts::Comparison;
 pub(crate) fn narrow(comparison: Comparison, first: Span, second: Span) -> Option<Span>
     ensures { result ≡ narrowed comparison first second }
 {
-    let (a, b) = (first.low as i64, first.high as i64);
-    let (c, d) = (second.low as i64, second.high as i64);
+    let (a, b) = first.ends();
+    let (c, d) = second.ends();
     match comparison {
         Comparison::Equal => Span::between(a.max(c), b.min(d)),
         Comparison::NotEqual => apart(first, second),
-        Comparison::Less => Span::between(a, b.min(minus(second.high, 1))),
+        Comparison::Less => Span::between(a, b.min(d - 1)),
         Comparison::AtMost => Span::between(a, b.min(d)),
-        Comparison::Greater => Span::between(a.max(plus(second.low, 1)), b),
+        Comparison::Greater => Span::between(a.max(c + 1), b),
         Comparison::AtLeast => Span::between(a.max(c), b),
     }
 }
@@ -37,10 +36,12 @@ fn apart(first: Span, second: Span) -> Option<Span>
 fn cut(span: Span, number: i32) -> Option<Span>
     ensures { result ≡ without span number }
 {
-    if span.low == number {
-        Span::between(plus(number, 1), span.high as i64)
-    } else if span.high == number {
-        Span::between(span.low as i64, minus(number, 1))
+    let (a, b) = span.ends();
+    let k = i64::from(number);
+    if a == k {
+        Span::between(k + 1, b)
+    } else if b == k {
+        Span::between(a, k - 1)
     } else {
         Some(span)
     }
