@@ -3,7 +3,7 @@ ghost use Rattle.std.specs.Prelude.{◌<◌, ◌≤ℤ◌};
 ghost use Rattle.std.specs.Int.Signed.{mag};
 
 /// The numbers from `low` to `high`, both included. The type itself says that low is not above high.
-#[derive(Clone, Copy)]
+#[derive(Clone, Copy, Debug, PartialEq, Eq)]
 pub struct Span {
     pub low: i32,
     pub high: i32,
@@ -13,7 +13,7 @@ pub struct Span {
 }
 
 /// Two numbers, as memory keeps a span. Any two may stand there, so a record is checked when it is recalled.
-#[derive(Clone, Copy)]
+#[derive(Clone, Copy, Debug, PartialEq, Eq)]
 pub struct SpanRecord {
     pub low: i32,
     pub high: i32,
