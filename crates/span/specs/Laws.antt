@@ -1,10 +1,10 @@
 -- The laws of the kind span.
-use Rattle.std.specs.Prelude.{◌≡◌, ℕ, ◌+◌, ◌*◌, ◌/◌, ◌%◌, ◌^◌, ◌<◌, Bool, true, false, cond, not, ◌&&◌, T, ℤ, pos, ◌+ℤ◌, ◌-ℤ◌, ◌*ℤ◌, ◌≤ℤ◌, ◌<ℤ◌, Some, None, ◌≢◌, int_le, int_rem, refl}
-use Rattle.std.proofs.Common.{sym, ap, ap₂, subst, ◌∙◌, arith, of_z, to_z}
-use Rattle.std.specs.Int.Signed.{le_z_yes, lt_z_yes, mag_rem, ≤ℤ_refl}
+use Rattle.std.specs.Prelude.{◌≡◌, ℕ, ◌/◌, ◌%◌, ◌^◌, ◌<◌, Bool, true, false, cond, not, ◌&&◌, ℤ, pos, ◌+ℤ◌, ◌-ℤ◌, ◌*ℤ◌, ◌≤ℤ◌, Some, None, ◌≢◌, int_le, int_rem, refl}
+use Rattle.std.proofs.Common.{sym, ap, ap₂, subst, ◌∙◌, arith, of_z}
+use Rattle.std.specs.Int.Signed.{mag_rem, ≤ℤ_refl}
 use Rattle.std.specs.Int.{int_max, int_min, w32}
 use Rattle.std.proofs.lemmas.Grind.{common_steps}
-use Rattle.std.proofs.lemmas.Int.{ints, clamps, of_z-to_z, to_z-of_z}
+use Rattle.std.proofs.lemmas.Int.{ints, clamps, of_z-to_z}
 use Rattle.std.proofs.lemmas.Bool.{and_from, and_parts, false≢true}
 use Rattle.macros.specs.declared.parts.Arithmetic.{Arithmetic}
 use Rattle.macros.specs.declared.parts.Arithmetic.TheVariants.{Add, Subtract, Multiply, Remainder}
@@ -27,7 +27,7 @@ single_is_low s x h p = let e = same_is s.low s.high h in omega (arith, ints)
 remainder_of : (x y z : ℤ) → computed Remainder x y ≡ Some z → (same_int y (pos 0) ≡ false) × (int_rem x y ≡ z)
 remainder_of x y z e = go (same_int y (pos 0)) refl e where
   go : (t : Bool) → same_int y (pos 0) ≡ t → cond t None (Some (int_rem x y)) ≡ Some z → (same_int y (pos 0) ≡ false) × (int_rem x y ≡ z)
-  go true h k = let w : ◌≡◌ {A = ℕ} 0 1 = cc in absurd (omega arith)
+  go true h k = cc
   go false h k = (h, cc)
 
 remainder_sound : (s t : Span) (x y z : ℤ) → Number x → Between s x → Between t y → computed Remainder x y ≡ Some z → Stands span_ops (combined Remainder s t) z
@@ -81,66 +81,36 @@ without_stands s k x f p n = go (same_int s.low k) (same_int s.high k) (same_is 
   go false true l h = let e = h refl in part_stands s s.low (k -ℤ pos 1) x f (≤ℤ_refl _) p.0 (below x k (subst (λ v. x ≤ℤ v) e p.1) n) (omega (arith, ints))
   go false false l h = p
 
-true_is_true : {b : Bool} → b ≡ true → T b
-true_is_true e = subst T (sym e) tt
-
-T_true : {b : Bool} → T b → b ≡ true
-T_true {b = true} t = refl
-T_true {b = false} t = absurd t
-
 narrow_law : (c : Comparison) (s t : Span) (x y : ℤ) → Number x → Number y → Between s x → Between t y → holds c x y ≡ true → Stands span_ops (narrowed c s t) x
 narrow_law Equal s t x y f g p q h = let e = same_is x y h in part_stands s (int_max s.low t.low) (int_min s.high t.high) x f (omega (arith, ints, clamps)) (omega (arith, ints, clamps)) (omega (arith, ints, clamps)) (omega (arith, ints, clamps))
 narrow_law NotEqual s t x y f g p q h = go (is_single t) refl where
   go : (a : Bool) → is_single t ≡ a → Stands span_ops (cond a (without s t.low) (Some s)) x
   go true e = without_stands s t.low x f p (λ k. false≢true (sym (ap not (same_yes x y (k ∙ sym (single_is_low t y e q)))) ∙ h))
   go false e = p
-narrow_law Less s t x y f g p q h = let e : x <ℤ y = lt_z_yes (true_is_true h) in part_stands s s.low (int_min s.high (t.high -ℤ pos 1)) x f (≤ℤ_refl _) p.0 (omega (arith, ints, clamps)) (omega (arith, ints, clamps))
-narrow_law AtMost s t x y f g p q h = let e : x ≤ℤ y = le_z_yes (true_is_true h) in part_stands s s.low (int_min s.high t.high) x f (≤ℤ_refl _) p.0 (omega (arith, ints, clamps)) (omega (arith, ints, clamps))
-narrow_law Greater s t x y f g p q h = let e : y <ℤ x = lt_z_yes (true_is_true h) in part_stands s (int_max s.low (t.low +ℤ pos 1)) s.high x f (omega (arith, ints, clamps)) (omega (arith, ints, clamps)) p.1 (≤ℤ_refl _)
-narrow_law AtLeast s t x y f g p q h = let e : y ≤ℤ x = le_z_yes (true_is_true h) in part_stands s (int_max s.low t.low) s.high x f (omega (arith, ints, clamps)) (omega (arith, ints, clamps)) p.1 (≤ℤ_refl _)
+narrow_law Less s t x y f g p q h = part_stands s s.low (int_min s.high (t.high -ℤ pos 1)) x f (≤ℤ_refl _) p.0 (omega (arith, ints, clamps)) (omega (arith, ints, clamps))
+narrow_law AtMost s t x y f g p q h = part_stands s s.low (int_min s.high t.high) x f (≤ℤ_refl _) p.0 (omega (arith, ints, clamps)) (omega (arith, ints, clamps))
+narrow_law Greater s t x y f g p q h = part_stands s (int_max s.low (t.low +ℤ pos 1)) s.high x f (omega (arith, ints, clamps)) (omega (arith, ints, clamps)) p.1 (≤ℤ_refl _)
+narrow_law AtLeast s t x y f g p q h = part_stands s (int_max s.low t.low) s.high x f (omega (arith, ints, clamps)) (omega (arith, ints, clamps)) p.1 (≤ℤ_refl _)
 
 within_ends : (s t : Span) → is_within s t ≡ true → (t.low ≤ℤ s.low) × (s.high ≤ℤ t.high)
 within_ends s t h =
     let x = and_parts (int_le t.low s.low) (int_le s.high t.high) h in
-    (le_z_yes (true_is_true x.0), le_z_yes (true_is_true x.1))
+    (omega (arith, ints, x.0), omega (arith, ints, x.1))
 
 ends_within : (s t : Span) → t.low ≤ℤ s.low → s.high ≤ℤ t.high → is_within s t ≡ true
-ends_within s t x y = and_from (int_le t.low s.low) (int_le s.high t.high) (T_true x.le) (T_true y.le)
-
--- the 32 bits of a number, and back
-bits_below : (k : ℤ) → Number k → of_z w32 k < 4294967296
-bits_below k f = omega (arith, ints)
-
-bits_back : (k : ℤ) → Number k → to_z w32 (of_z w32 k) ≡ k
-bits_back k f = to_z-of_z w32 k (record { sfits = f })
-
--- the two halves of a number of 64 bits
-first_half : (a b : ℕ) → a < 4294967296 → b < 4294967296 → (a * 4294967296 + b) / 4294967296 % 4294967296 ≡ a
-first_half a b p q = omega arith
-
-second_half : (a b : ℕ) → b < 4294967296 → (a * 4294967296 + b) % 4294967296 ≡ b
-second_half a b q = omega arith
+ends_within s t x y = and_from (int_le t.low s.low) (int_le s.high t.high) (sym (omega (arith, ints))) (sym (omega (arith, ints)))
 
 code_fits : (s : Span) → code_of s < 2 ^ 64
-code_fits s =
-    let p = bits_below s.low s.low_fits in
-    let q = bits_below s.high s.high_fits in
-    omega arith
+code_fits s = omega (arith, ints)
 
 code_decoded : (s : Span) → decoded (code_of s) ≡ Some s
 code_decoded s =
-    let a = of_z w32 s.low in
-    let b = of_z w32 s.high in
-    let p = bits_below s.low s.low_fits in
-    let q = bits_below s.high s.high_fits in
-    span_of_ends s _ _ (sym (ap (to_z w32) (first_half a b p q) ∙ bits_back s.low s.low_fits)) (sym (ap (to_z w32) (second_half a b q) ∙ bits_back s.high s.high_fits))
+    let l : code_of s / 4294967296 % 4294967296 ≡ of_z w32 s.low = omega (arith, ints) in
+    let h : code_of s % 4294967296 ≡ of_z w32 s.high = omega (arith, ints) in
+    rw (l, h) (span_of_ends s _ _ (omega (arith, ints)) (omega (arith, ints)))
 
 decoded_code : (c : ℕ) (s : Span) → c < 2 ^ 64 → decoded c ≡ Some s → code_of s ≡ c
-decoded_code c s f e =
-    let x = ends_of_span _ _ s e in
-    let l : of_z w32 s.low ≡ c / 4294967296 % 4294967296 = ap (of_z w32) x.0 ∙ of_z-to_z w32 (c / 4294967296 % 4294967296) (omega arith) in
-    let h : of_z w32 s.high ≡ c % 4294967296 = ap (of_z w32) x.1 ∙ of_z-to_z w32 (c % 4294967296) (omega arith) in
-    omega arith
+decoded_code c s f e = let x = ends_of_span _ _ s e in grind (arith, ints, of_z-to_z)
 
 pub span_laws : Laws span_ops
 span_laws = record {

@@ -4,6 +4,7 @@ use Rattle.std.specs.Prelude.{ℕ, ◌+◌, ◌*◌, ◌/◌, ◌%◌, Bool, tru
 use Rattle.std.proofs.Common.{ltb→lt, of_z, to_z}
 use Rattle.std.specs.Int.Signed.{le_z_yes, mag}
 use Rattle.std.specs.Int.{int_max, int_min, w32}
+use Rattle.std.specs.Option.{unwrap_or}
 use Rattle.macros.specs.declared.parts.Arithmetic.{Arithmetic}
 use Rattle.macros.specs.declared.parts.Arithmetic.TheVariants.{Add, Subtract, Multiply, Remainder}
 use Rattle.macros.specs.declared.parts.Comparison.{Comparison}
@@ -39,8 +40,7 @@ whole_range = record { low = negsuc 2147483647; high = pos 2147483647; order = l
 
 -- the span, or the whole range where there is none
 abbrev pub or_whole : Option Span → Span
-or_whole None = whole_range
-or_whole (Some s) = s
+or_whole o = unwrap_or o whole_range
 
 -- k..k; what is no number of 32 bits has no span of its own
 abbrev pub single_span : ℤ → Span
