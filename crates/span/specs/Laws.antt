@@ -1,11 +1,11 @@
 -- The laws of the kind span.
-use Rattle.std.specs.Prelude.{◌≡◌, ℕ, ◌/◌, ◌%◌, ◌^◌, ◌<◌, Bool, true, false, cond, not, ◌&&◌, ℤ, pos, ◌+ℤ◌, ◌-ℤ◌, ◌*ℤ◌, ◌≤ℤ◌, Some, None, ◌≢◌, int_le, int_rem, refl}
-use Rattle.std.proofs.Common.{sym, ap, ap₂, subst, ◌∙◌, arith, of_z}
+use Rattle.std.specs.Prelude.{◌≡◌, ℕ, ◌/◌, ◌%◌, ◌^◌, ◌<◌, Bool, true, false, cond, ◌&&◌, ℤ, pos, ◌+ℤ◌, ◌-ℤ◌, ◌≤ℤ◌, Some, None, ◌≢◌, int_le, int_rem, refl}
+use Rattle.std.proofs.Common.{sym, ap₂, subst, ◌∙◌, arith, of_z}
 use Rattle.std.specs.Int.Signed.{mag_rem, ≤ℤ_refl}
-use Rattle.std.specs.Int.{int_max, int_min, w32}
+use Rattle.std.specs.Int.{w32}
 use Rattle.std.proofs.lemmas.Grind.{common_steps}
 use Rattle.std.proofs.lemmas.Int.{ints, clamps, of_z-to_z}
-use Rattle.std.proofs.lemmas.Bool.{and_from, and_parts, false≢true}
+use Rattle.std.proofs.lemmas.Bool.{and_from, and_parts}
 use Rattle.macros.specs.declared.parts.Arithmetic.{Arithmetic}
 use Rattle.macros.specs.declared.parts.Arithmetic.TheVariants.{Add, Subtract, Multiply, Remainder}
 use Rattle.macros.specs.declared.parts.Comparison.{Comparison}
@@ -14,7 +14,7 @@ use Rattle.macros.specs.Number.{Number}
 use Rattle.numbers.specs.Arithmetic.{computed, holds, same_int}
 use Rattle.kinds.specs.Kind.{Laws, Named, Stands}
 use Rattle.span.specs.declared.value.Span.{Span}
-use Rattle.span.specs.Span.{Between, code_of, combined, decoded, greatest_of_4, is_single, is_within, is_zero, least_of_4, narrowed, single_span, span_of, span_ops, whole_range, without}
+use Rattle.span.specs.Span.{Between, code_of, combined, decoded, is_single, is_within, is_zero, narrowed, single_span, span_of, span_ops, whole_range, without}
 use Rattle.span.specs.Made.{ends_of_span, in_whole, number_between, single_stands, span_of_ends, span_stands, wrapped_stands}
 use Rattle.span.specs.Products.{product_from_least, product_to_greatest}
 use Rattle.numbers.proofs.Same.{same_is, same_yes}
@@ -44,7 +44,7 @@ remainder_sound s t x y z f p q e = go (is_zero t) (is_single s && is_single t) 
       let l = same_is t.low (pos 0) z.0 in
       let u = same_is t.high (pos 0) z.1 in
       let y0 : y ≡ pos 0 = omega (arith, ints) in
-      false≢true (sym was.0 ∙ same_yes y (pos 0) y0)
+      let w = same_yes y (pos 0) y0 in cc
 
   go : (o b : Bool) → is_zero t ≡ o → (is_single s && is_single t) ≡ b → Stands span_ops (cond o None (Some (cond b (single_span (int_rem s.low t.low)) whole_range))) z
   go true b h k = absurd (not_zero h)
@@ -55,42 +55,32 @@ remainder_sound s t x y z f p q e = go (is_zero t) (is_single s && is_single t) 
       rw n (single_stands z fits)
 
 combine_law : (a : Arithmetic) (s t : Span) (x y z : ℤ) → Number x → Number y → Between s x → Between t y → computed a x y ≡ Some z → Stands span_ops (combined a s t) z
-combine_law Add s t x y z f g p q e = wrapped_stands (s.low +ℤ t.low) (s.high +ℤ t.high) (x +ℤ y) z (omega (arith, ints)) (omega (arith, ints)) e
-combine_law Subtract s t x y z f g p q e = wrapped_stands (s.low -ℤ t.high) (s.high -ℤ t.low) (x -ℤ y) z (omega (arith, ints)) (omega (arith, ints)) e
-combine_law Multiply s t x y z f g p q e =
-    wrapped_stands (least_of_4 (s.low *ℤ t.low) (s.low *ℤ t.high) (s.high *ℤ t.low) (s.high *ℤ t.high)) (greatest_of_4 (s.low *ℤ t.low) (s.low *ℤ t.high) (s.high *ℤ t.low) (s.high *ℤ t.high)) (x *ℤ y) z
-    (product_from_least s.low s.high t.low t.high x y p.0 p.1 q.0 q.1)
-    (product_to_greatest s.low s.high t.low t.high x y p.0 p.1 q.0 q.1)
-    e
+combine_law Add s t x y z f g p q e = wrapped_stands _ _ _ z (omega (arith, ints)) (omega (arith, ints)) e
+combine_law Subtract s t x y z f g p q e = wrapped_stands _ _ _ z (omega (arith, ints)) (omega (arith, ints)) e
+combine_law Multiply s t x y z f g p q e = wrapped_stands _ _ _ z (product_from_least s.low s.high t.low t.high x y p.0 p.1 q.0 q.1) (product_to_greatest s.low s.high t.low t.high x y p.0 p.1 q.0 q.1) e
 combine_law Remainder s t x y z f g p q e = remainder_sound s t x y z f p q e
 
 -- a part of a span stands for the numbers in it
 part_stands : (s : Span) (l h x : ℤ) → Number x → s.low ≤ℤ l → l ≤ℤ x → x ≤ℤ h → h ≤ℤ s.high → Stands span_ops (span_of l h) x
 part_stands s l h x f a b c d = span_stands l h x b c (number_between s.low l x a b s.low_fits f) (number_between x h s.high c d f s.high_fits)
 
-above : (l x : ℤ) → l ≤ℤ x → (x ≢ l) → (l +ℤ pos 1) ≤ℤ x
-above l x h n = omega (arith, ints)
-
-below : (x h : ℤ) → x ≤ℤ h → (x ≢ h) → x ≤ℤ (h -ℤ pos 1)
-below x h l n = omega (arith, ints)
-
 without_stands : (s : Span) (k x : ℤ) → Number x → Between s x → (x ≢ k) → Stands span_ops (without s k) x
 without_stands s k x f p n = go (same_int s.low k) (same_int s.high k) (same_is s.low k) (same_is s.high k) where
   go : (a b : Bool) → (a ≡ true → s.low ≡ k) → (b ≡ true → s.high ≡ k) → Stands span_ops (cond a (span_of (k +ℤ pos 1) s.high) (cond b (span_of s.low (k -ℤ pos 1)) (Some s))) x
-  go true b l h = let e = l refl in part_stands s (k +ℤ pos 1) s.high x f (omega (arith, ints)) (above k x (subst (λ v. v ≤ℤ x) e p.0) n) p.1 (≤ℤ_refl _)
-  go false true l h = let e = h refl in part_stands s s.low (k -ℤ pos 1) x f (≤ℤ_refl _) p.0 (below x k (subst (λ v. x ≤ℤ v) e p.1) n) (omega (arith, ints))
+  go true b l h = let e = l refl in part_stands s _ _ x f (omega (arith, ints)) (omega (arith, ints)) p.1 (≤ℤ_refl _)
+  go false true l h = let e = h refl in part_stands s _ _ x f (≤ℤ_refl _) p.0 (omega (arith, ints)) (omega (arith, ints))
   go false false l h = p
 
 narrow_law : (c : Comparison) (s t : Span) (x y : ℤ) → Number x → Number y → Between s x → Between t y → holds c x y ≡ true → Stands span_ops (narrowed c s t) x
-narrow_law Equal s t x y f g p q h = let e = same_is x y h in part_stands s (int_max s.low t.low) (int_min s.high t.high) x f (omega (arith, ints, clamps)) (omega (arith, ints, clamps)) (omega (arith, ints, clamps)) (omega (arith, ints, clamps))
+narrow_law Equal s t x y f g p q h = let e = same_is x y h in part_stands s _ _ x f (omega (arith, ints, clamps)) (omega (arith, ints, clamps)) (omega (arith, ints, clamps)) (omega (arith, ints, clamps))
 narrow_law NotEqual s t x y f g p q h = go (is_single t) refl where
   go : (a : Bool) → is_single t ≡ a → Stands span_ops (cond a (without s t.low) (Some s)) x
-  go true e = without_stands s t.low x f p (λ k. false≢true (sym (ap not (same_yes x y (k ∙ sym (single_is_low t y e q)))) ∙ h))
+  go true e = without_stands s t.low x f p (λ k. let w = same_yes x y (k ∙ sym (single_is_low t y e q)) in cc)
   go false e = p
-narrow_law Less s t x y f g p q h = part_stands s s.low (int_min s.high (t.high -ℤ pos 1)) x f (≤ℤ_refl _) p.0 (omega (arith, ints, clamps)) (omega (arith, ints, clamps))
-narrow_law AtMost s t x y f g p q h = part_stands s s.low (int_min s.high t.high) x f (≤ℤ_refl _) p.0 (omega (arith, ints, clamps)) (omega (arith, ints, clamps))
-narrow_law Greater s t x y f g p q h = part_stands s (int_max s.low (t.low +ℤ pos 1)) s.high x f (omega (arith, ints, clamps)) (omega (arith, ints, clamps)) p.1 (≤ℤ_refl _)
-narrow_law AtLeast s t x y f g p q h = part_stands s (int_max s.low t.low) s.high x f (omega (arith, ints, clamps)) (omega (arith, ints, clamps)) p.1 (≤ℤ_refl _)
+narrow_law Less s t x y f g p q h = part_stands s _ _ x f (≤ℤ_refl _) p.0 (omega (arith, ints, clamps)) (omega (arith, ints, clamps))
+narrow_law AtMost s t x y f g p q h = part_stands s _ _ x f (≤ℤ_refl _) p.0 (omega (arith, ints, clamps)) (omega (arith, ints, clamps))
+narrow_law Greater s t x y f g p q h = part_stands s _ _ x f (omega (arith, ints, clamps)) (omega (arith, ints, clamps)) p.1 (≤ℤ_refl _)
+narrow_law AtLeast s t x y f g p q h = part_stands s _ _ x f (omega (arith, ints, clamps)) (omega (arith, ints, clamps)) p.1 (≤ℤ_refl _)
 
 within_ends : (s t : Span) → is_within s t ≡ true → (t.low ≤ℤ s.low) × (s.high ≤ℤ t.high)
 within_ends s t h =

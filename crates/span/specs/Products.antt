@@ -35,24 +35,11 @@ module _ (l h l' h' a b m : ℤ) (la : l ≤ℤ a) (ah : a ≤ℤ h) (lb : l' �
       (rw (*ℤ_comm a l') (side_high l' l h a m la ah (rw (*ℤ_comm l' l) p) (rw (*ℤ_comm l' h) r)))
       (rw (*ℤ_comm a h') (side_high h' l h a m la ah (rw (*ℤ_comm h' l) q) (rw (*ℤ_comm h' h) s)))
 
-module _ (a b c d : ℤ) where
-  least_not_above : (least_of_4 a b c d ≤ℤ a) × (least_of_4 a b c d ≤ℤ b) × (least_of_4 a b c d ≤ℤ c) × (least_of_4 a b c d ≤ℤ d)
-  unfolding least_of_4
-  least_not_above = (omega (arith, ints, clamps), omega (arith, ints, clamps), omega (arith, ints, clamps), omega (arith, ints, clamps))
-
-  greatest_not_below : (a ≤ℤ greatest_of_4 a b c d) × (b ≤ℤ greatest_of_4 a b c d) × (c ≤ℤ greatest_of_4 a b c d) × (d ≤ℤ greatest_of_4 a b c d)
-  unfolding greatest_of_4
-  greatest_not_below = (omega (arith, ints, clamps), omega (arith, ints, clamps), omega (arith, ints, clamps), omega (arith, ints, clamps))
-
 module _ (l h l' h' a b : ℤ) (la : l ≤ℤ a) (ah : a ≤ℤ h) (lb : l' ≤ℤ b) (bh : b ≤ℤ h') where
   pub product_from_least : least_of_4 (l *ℤ l') (l *ℤ h') (h *ℤ l') (h *ℤ h') ≤ℤ (a *ℤ b)
-  product_from_least =
-      let m = least_of_4 (l *ℤ l') (l *ℤ h') (h *ℤ l') (h *ℤ h') in
-      let x = least_not_above (l *ℤ l') (l *ℤ h') (h *ℤ l') (h *ℤ h') in
-      corner_low l h l' h' a b m la ah lb bh x.0 x.1 x.2 x.3
+  unfolding least_of_4
+  product_from_least = corner_low l h l' h' a b _ la ah lb bh (omega (arith, ints, clamps)) (omega (arith, ints, clamps)) (omega (arith, ints, clamps)) (omega (arith, ints, clamps))
 
   pub product_to_greatest : (a *ℤ b) ≤ℤ greatest_of_4 (l *ℤ l') (l *ℤ h') (h *ℤ l') (h *ℤ h')
-  product_to_greatest =
-      let m = greatest_of_4 (l *ℤ l') (l *ℤ h') (h *ℤ l') (h *ℤ h') in
-      let x = greatest_not_below (l *ℤ l') (l *ℤ h') (h *ℤ l') (h *ℤ h') in
-      corner_high l h l' h' a b m la ah lb bh x.0 x.1 x.2 x.3
+  unfolding greatest_of_4
+  product_to_greatest = corner_high l h l' h' a b _ la ah lb bh (omega (arith, ints, clamps)) (omega (arith, ints, clamps)) (omega (arith, ints, clamps)) (omega (arith, ints, clamps))
