@@ -7,7 +7,6 @@ use super::value::Span;
 use macros::parts::Arithmetic;
 use numbers::compute;
 
-#[tactic(auto, using(crate::proofs::Wide::wide))]
 pub(crate) fn sum(left: Span, right: Span) -> Span
     ensures { result ≡ sum_of left right }
 {
@@ -16,7 +15,6 @@ pub(crate) fn sum(left: Span, right: Span) -> Span
     Span::between_or_whole(a + c, b + d)
 }
 
-#[tactic(auto, using(crate::proofs::Wide::wide))]
 pub(crate) fn difference(left: Span, right: Span) -> Span
     ensures { result ≡ difference_of left right }
 {
@@ -31,10 +29,8 @@ pub(crate) fn product(left: Span, right: Span) -> Span
 {
     let (a, b) = left.ends();
     let (c, d) = right.ends();
-    Span::between_or_whole(
-        least(a * c, a * d, b * c, b * d),
-        greatest(a * c, a * d, b * c, b * d),
-    )
+    let (p, q, r, s) = (a * c, a * d, b * c, b * d);
+    Span::between_or_whole(least(p, q, r, s), greatest(p, q, r, s))
 }
 
 fn least(a: i64, b: i64, c: i64, d: i64) -> i64

@@ -26,6 +26,7 @@ impl Span {
     }
 
     /// The span with these ends; none if the first is above the second, or one of them is out of range.
+    /// It is no `TryFrom`: no caller asks why there is none.
     pub(crate) fn between(from: i64, to: i64) -> Option<Span>
         ensures { result ≡ span_of from to }
     {
