@@ -30,15 +30,14 @@ fn compute_by(arithmetic: Arithmetic, left: i32, right: i32) -> Option<i32>
     }
 }
 
-/// What remains of a division cut toward zero.
+/// What remains of a division cut toward zero. `checked_rem` has no result for the least number by -1; the rules have 0.
 fn remainder(left: i32, right: i32) -> Option<i32>
     ensures { result ≡ computed Arithmetic.Remainder left right }
 {
-    match right {
-        0 => None,
-        // The quotient of the least number by -1 is out of range; the remainder by -1 is 0 of any number.
-        -1 => Some(0),
-        _ => Some(left % right),
+    if right == 0 {
+        None
+    } else {
+        Some(left.wrapping_rem(right))
     }
 }
 
