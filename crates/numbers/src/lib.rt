@@ -10,17 +10,11 @@ use macros::parts::{Arithmetic, Comparison};
 
 /// What the run works out from two numbers. A remainder by 0 has no result.
 /// What `computed` works out is, for any two numbers, the one result that the rules give.
+#[tactic(auto, using(crate::proofs::Told::computed_given, crate::proofs::Told::given_computed, std::proofs::lemmas::Int::wraps))]
 pub fn compute(arithmetic: Arithmetic, left: i32, right: i32) -> Option<i32>
     ensures answer { result ≡ computed arithmetic left right }
     ensures by_the_rules { ComputedGiven }
     ensures no_other { GivenComputed }
-{
-    compute_by(arithmetic, left, right)
-}
-
-/// Does the work of `compute`.
-fn compute_by(arithmetic: Arithmetic, left: i32, right: i32) -> Option<i32>
-    ensures { result ≡ computed arithmetic left right }
 {
     match arithmetic {
         Arithmetic::Add => Some(left.wrapping_add(right)),
@@ -47,13 +41,6 @@ pub fn compare(comparison: Comparison, left: i32, right: i32) -> bool
     ensures answer { result ≡ holds comparison left right }
     ensures by_the_rules { HeldCompares }
     ensures none_missed { ComparesHeld }
-{
-    compare_by(comparison, left, right)
-}
-
-/// Does the work of `compare`.
-fn compare_by(comparison: Comparison, left: i32, right: i32) -> bool
-    ensures { result ≡ holds comparison left right }
 {
     match comparison {
         Comparison::Equal => left == right,
