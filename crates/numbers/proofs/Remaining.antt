@@ -1,46 +1,23 @@
 -- A division by a number other than 0 leaves exactly one remainder: that of the division cut toward zero.
-use Rattle.std.proofs.Common.{◌≡◌, ℕ, zero, suc, ◌+◌, ◌*◌, ◌/◌, ◌%◌, ◌<◌, ◌⊎◌, ℤ, pos, negsuc, ◌+ℤ◌, ◌*ℤ◌, neg_ℤ, nat_abs, ◌≤ℤ◌, sym, refl, ap, ◌∙◌, inl, inr, mod-lt, mod-eq_of_lt, div-add-mod', arith}
+use Rattle.std.proofs.Common.{◌≡◌, ℕ, zero, suc, ◌+◌, ◌*◌, ◌%◌, ◌<◌, ◌⊎◌, ℤ, pos, negsuc, ◌+ℤ◌, ◌*ℤ◌, neg_ℤ, nat_abs, ◌≤ℤ◌, sym, refl, ap, ◌∙◌, inl, inr, mod-eq_of_lt, arith}
 use lib.Arith.{digits_mod}
 use lib.Signed.{quot_z, rem_z}
-use Rattle.std.proofs.lemmas.Int.{ints}
+use Rattle.std.proofs.lemmas.Int.{ints, quot-rem, rem_below}
 use Rattle.numbers.specs.Rules.{Remains}
-
--- a product of a number that is not above 0 and one that is not below 0
-across : (n b : ℕ) → neg_ℤ (pos n) *ℤ pos b ≡ neg_ℤ (pos (n * b))
-across zero b = omega (arith, ints)
-across (suc n) b = refl
-
--- a product of two numbers that are not above 0
-both : (n b : ℕ) → neg_ℤ (pos n) *ℤ negsuc b ≡ pos (n * suc b)
-both zero b = omega (arith, ints)
-both (suc n) b = refl
-
--- the quotient and the remainder make up x
-whole : (x y : ℤ) → x ≡ (quot_z x y *ℤ y) +ℤ rem_z x y
-whole (pos a) (pos b) = ap pos (sym (div-add-mod' a b))
-whole (pos a) (negsuc b) = rw (both (a / suc b) b) (ap pos (sym (div-add-mod' a (suc b))))
-whole (negsuc a) (pos b) = rw (across (suc a / b) b) (omega (arith, ints, div-add-mod' (suc a) b))
-whole (negsuc a) (negsuc b) = omega (arith, ints, div-add-mod' (suc a) (suc b))
 
 some : (y : ℤ) → (y ≡ pos 0 → ⊥) → 0 < nat_abs y
 some (pos zero) n = absurd (n refl)
 some (pos (suc b)) n = omega arith
 some (negsuc b) n = omega arith
 
-smaller : (x y : ℤ) → 0 < nat_abs y → nat_abs (rem_z x y) < nat_abs y
-smaller (pos a) y p = mod-lt a p
-smaller (negsuc a) y p = omega (arith, ints, mod-lt (suc a) p)
-
 not_below : (x y : ℤ) → pos 0 ≤ℤ x → pos 0 ≤ℤ rem_z x y
-not_below (pos a) y h = omega (arith, ints)
-not_below (negsuc a) y h = absurd (omega (arith, ints))
+not_below x y h = grind (arith, ints)
 
 not_above : (x y : ℤ) → x ≤ℤ pos 0 → rem_z x y ≤ℤ pos 0
-not_above (pos a) y h = omega (arith, ints)
-not_above (negsuc a) y h = omega (arith, ints)
+not_above x y h = grind (arith, ints)
 
 pub int_rem_remains : (x y : ℤ) → (y ≡ pos 0 → ⊥) → Remains x y (rem_z x y)
-int_rem_remains x y n = record { quotient = quot_z x y; whole = whole x y; smaller = smaller x y (some y n); not_below = not_below x y; not_above = not_above x y }
+int_rem_remains x y n = record { quotient = quot_z x y; whole = sym (quot-rem x y); smaller = rem_below x y (some y n); not_below = not_below x y; not_above = not_above x y }
 
 -- a product is that of the sizes, or its opposite
 product : (q y : ℤ) → (q *ℤ y ≡ pos (nat_abs q * nat_abs y)) ⊎ (q *ℤ y ≡ neg_ℤ (pos (nat_abs q * nat_abs y)))

@@ -1,11 +1,10 @@
 -- What is worked out, and what tests true, is what the rules say.
-use Rattle.std.proofs.Common.{◌≡◌, Bool, true, false, cond, not, ℤ, pos, ◌+ℤ◌, ◌-ℤ◌, ◌*ℤ◌, Some, None, sym, refl, ap, subst, arith, w32}
+use Rattle.std.proofs.Common.{◌≡◌, Bool, true, false, cond, ℤ, pos, ◌+ℤ◌, ◌-ℤ◌, ◌*ℤ◌, Some, None, refl, ap, subst, arith, rules, w32}
 use lib.Signed.{rem_z}
 use Rattle.std.specs.Int.{int_wrap}
 use Rattle.std.proofs.lemmas.Int.{ints}
-use Rattle.std.proofs.lemmas.Bool.{both_ways, not-true}
+use Rattle.std.proofs.lemmas.Bool.{both_ways}
 use Rattle.macros.specs.declared.parts.Arithmetic.TheVariants.{Add, Subtract, Multiply, Remainder}
-use Rattle.macros.specs.declared.parts.Comparison.TheVariants.{Equal, NotEqual, Less, AtMost, Greater, AtLeast}
 use Rattle.numbers.specs.Arithmetic.{same_int}
 use Rattle.numbers.specs.Rules.{Wraps, Remains, ComputedGiven, GivenComputed, HeldCompares, ComparesHeld}
 use Rattle.numbers.proofs.Same.{same_is, same_yes}
@@ -38,22 +37,8 @@ given_computed Subtract x y z w = wraps_worked (x -ℤ y) z w
 given_computed Multiply x y z w = wraps_worked (x *ℤ y) z w
 given_computed Remainder x y z r = remains_worked x y z r (same_int y (pos 0)) refl
 
-differ : (x y : ℤ) → (x ≡ y → ⊥) → (t : Bool) → same_int x y ≡ t → not t ≡ true
-differ x y n true s = absurd (n (same_is x y s))
-differ x y n false s = refl
-
 pub held_compares : HeldCompares
-held_compares Equal x y h = same_is x y h
-held_compares NotEqual x y h = λ e. both_ways (same_int x y) (not-true (same_int x y) h) (same_yes x y e)
-held_compares Less x y h = omega (arith, ints)
-held_compares AtMost x y h = omega (arith, ints)
-held_compares Greater x y h = omega (arith, ints)
-held_compares AtLeast x y h = omega (arith, ints)
+held_compares = search rules
 
 pub compares_held : ComparesHeld
-compares_held Equal x y h = same_yes x y h
-compares_held NotEqual x y h = differ x y h (same_int x y) refl
-compares_held Less x y h = sym (omega (arith, ints))
-compares_held AtMost x y h = sym (omega (arith, ints))
-compares_held Greater x y h = sym (omega (arith, ints))
-compares_held AtLeast x y h = sym (omega (arith, ints))
+compares_held = search rules
