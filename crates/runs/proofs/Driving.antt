@@ -4,6 +4,7 @@ use Rattle.std.proofs.lemmas.List.{drop_all, drop_more}
 use Rattle.std.proofs.lemmas.Option.{slice_get-get_or}
 use Rattle.std.proofs.lemmas.Bool.{cond-true, cond-false, eq-eqb, eqb-true, le-ltb, ltb-false}
 use Rattle.std.specs.List.{AllByRecursion, slice_get}
+use Rattle.std.specs.Option.{IfSome}
 use Rattle.macros.specs.declared.parts.Edge.{Edge}
 use Rattle.macros.specs.declared.parts.Operation.{Operation}
 use Rattle.macros.specs.declared.parts.Operation.TheVariants.{Set, Compute, Read, Test}
@@ -13,10 +14,11 @@ use Rattle.macros.specs.Number.{Number}
 use Rattle.numbers.specs.Arithmetic.{holds}
 use Rattle.runs.specs.declared.drives.Position.{Position}
 use Rattle.runs.specs.declared.halts.EdgeHalt.{EdgeHalt}
+use Rattle.runs.specs.declared.halts.NoStep.TheVariants.{ZeroDivisor, NoReading}
 use Rattle.runs.specs.declared.halts.EdgeHalt.TheVariants.{Operation as at_operation}
-use Rattle.runs.specs.Promises.{DriveComplete, DriveSound, Reading, reading_taken}
+use Rattle.runs.specs.Promises.{DriveComplete, DriveSound, reading_taken}
 use Rattle.runs.specs.Runs.{Effect, Follows, State, Takes, computes, ends, operand_number, passes, reads, sets, state, takes, takes_on}
-use Rattle.runs.specs.Steps.{Advance, Followed, advance, begin, drive_numbers, edge_or, follow, followed, leaves, onward, place_at_end, put_reading, put_result, readings_of, stepped, taken}
+use Rattle.runs.specs.Steps.{Advance, Followed, advance, begin, drive_numbers, edge_or, follow, followed, leaves, onward, place_at_end, put_or, readings_of, stepped, taken}
 use Rattle.numbers.proofs.Told.{compares_held, given_computed}
 use Rattle.macros.proofs.Binds.{bind_ok, cond_ok, cond_not_ok, err_ok, ok_same}
 use Rattle.runs.proofs.Effects.{step_sound}
@@ -26,7 +28,7 @@ use Rattle.runs.proofs.Takes.{beyond, nth_within, turn}
 abbrev state_of : Advance → State
 state_of a = state a.position.place a.numbers
 
-reading_number : (rs : List ℤ) (k : ℕ) → AllByRecursion Number rs → Reading (slice_get rs k)
+reading_number : (rs : List ℤ) (k : ℕ) → AllByRecursion Number rs → IfSome (slice_get rs k) Number
 reading_number [] k f = tt
 reading_number (z ∷ rs) zero f = f.0
 reading_number (z ∷ rs) (suc k) f = reading_number rs k f.1
@@ -118,8 +120,8 @@ cons_drop later (x ∷ rs) (suc k) z e =
 -- a step whose readings are the next ones is worked out with them
 effect_stepped : (op : Operation) (xs ys now later rs : List ℤ) (k : ℕ) → Effect xs op now ys → now ++ later ≡ drop k rs → (stepped op xs (slice_get rs k) ≡ Ok ys) × (later ≡ drop (k + readings_of op) rs)
 effect_stepped op xs ys now later rs k (sets t a) e = (refl, e ∙ ap (λ n. drop n rs) (omega arith))
-effect_stepped op xs ys now later rs k (computes f t a b z h) e = (ap (put_result xs t) (given_computed f _ _ z h), e ∙ ap (λ n. drop n rs) (omega arith))
-effect_stepped op xs ys now later rs k (reads t z n) e = let r = cons_drop later rs k z e in (ap (put_reading xs t) r.0, sym r.1)
+effect_stepped op xs ys now later rs k (computes f t a b z h) e = (ap (put_or ZeroDivisor xs t) (given_computed f _ _ z h), e ∙ ap (λ n. drop n rs) (omega arith))
+effect_stepped op xs ys now later rs k (reads t z n) e = let r = cons_drop later rs k z e in (ap (put_or NoReading xs t) r.0, sym r.1)
 effect_stepped op xs ys now later rs k (passes c a b h) e = (cond-true (holds c (operand_number xs a) (operand_number xs b)) _ _ (compares_held c _ _ h), e ∙ ap (λ n. drop n rs) (omega arith))
 
 none_left : (rs : List ℤ) (k : ℕ) → [] ≡ drop k rs → length rs ≤ k

@@ -1,9 +1,9 @@
 -- What is promised of steps and drives, in the words of runs.
-use Rattle.std.specs.Prelude.{◌≡◌, ℕ, List, [], ◌∷◌, ℤ, Some, None, Ok, Option}
+use Rattle.std.specs.Prelude.{◌≡◌, ℕ, List, [], ℤ, Ok, Option}
+use Rattle.std.specs.Option.{option_to_list}
 use Rattle.macros.specs.declared.parts.Operation.{Operation}
 use Rattle.macros.specs.declared.parts.Operation.TheVariants.{Set, Compute, Read, Test}
 use Rattle.macros.specs.Macro.{Macro}
-use Rattle.macros.specs.Number.{Number}
 use Rattle.macros.specs.Range.{InRange}
 use Rattle.runs.specs.Runs.{Drives, Effect, Reaches, Run, Start, State, state}
 use Rattle.runs.specs.Steps.{drive_answer, drive_numbers, stepped}
@@ -12,14 +12,8 @@ use Rattle.runs.specs.Steps.{drive_answer, drive_numbers, stepped}
 abbrev pub reading_taken : Operation → Option ℤ → List ℤ
 reading_taken (Set t a) r = []
 reading_taken (Compute f t a b) r = []
-reading_taken (Read t) None = []
-reading_taken (Read t) (Some z) = z ∷ []
+reading_taken (Read t) r = option_to_list r
 reading_taken (Test c a b) r = []
-
--- a reading, if there is one, is a number of 32 bits
-abbrev pub Reading : Option ℤ → Type 0
-Reading None = Unit {0}
-Reading (Some z) = Number z
 
 -- what is worked out is a step
 abbrev pub StepSound : List ℤ → Operation → Option ℤ → Type 0

@@ -1,6 +1,7 @@
 -- One step and a whole path, worked out: the numbers and the place that come of it, or why it goes no further.
 use Rattle.std.specs.Prelude.{ℕ, ◌+◌, cond, List, [], ◌∷◌, length, ℤ, Some, None, Ok, Err, Option, Result, ◌==◌, nat_lt, slice_set}
 use Rattle.std.specs.List.{slice_get}
+use Rattle.std.specs.Result.{result_unwrap_or}
 use Rattle.macros.specs.declared.parts.Edge.{Edge}
 use Rattle.macros.specs.declared.parts.Operation.{Operation}
 use Rattle.macros.specs.declared.parts.Operation.TheVariants.{Set, Compute, Read, Test}
@@ -16,27 +17,21 @@ use Rattle.runs.specs.declared.halts.NoStep.TheVariants.{ZeroDivisor, NotPassed,
 use Rattle.runs.specs.declared.drives.Position.{Position}
 use Rattle.runs.specs.Runs.{operand_number}
 
--- the numbers xs with a result at variable t
-abbrev pub put_result : List ℤ → ℕ → Option ℤ → Result (List ℤ) NoStep
-put_result xs t None = Err ZeroDivisor
-put_result xs t (Some z) = Ok (slice_set xs t z)
-
--- the numbers xs with a reading at variable t
-abbrev pub put_reading : List ℤ → ℕ → Option ℤ → Result (List ℤ) NoStep
-put_reading xs t None = Err NoReading
-put_reading xs t (Some z) = Ok (slice_set xs t z)
+-- the numbers xs with a number at variable t, or why there is none to put there
+abbrev pub put_or : NoStep → List ℤ → ℕ → Option ℤ → Result (List ℤ) NoStep
+put_or why xs t None = Err why
+put_or why xs t (Some z) = Ok (slice_set xs t z)
 
 -- the numbers after an operation on xs, where r is the next reading, if there is one
 abbrev pub stepped : Operation → List ℤ → Option ℤ → Result (List ℤ) NoStep
 stepped (Set t a) xs r = Ok (slice_set xs t (operand_number xs a))
-stepped (Compute f t a b) xs r = put_result xs t (computed f (operand_number xs a) (operand_number xs b))
-stepped (Read t) xs r = put_reading xs t r
+stepped (Compute f t a b) xs r = put_or ZeroDivisor xs t (computed f (operand_number xs a) (operand_number xs b))
+stepped (Read t) xs r = put_or NoReading xs t r
 stepped (Test c a b) xs r = cond (holds c (operand_number xs a) (operand_number xs b)) (Ok xs) (Err NotPassed)
 
 -- the numbers that a step leaves; without a step they stay
 abbrev pub numbers_after : List ℤ → Result (List ℤ) NoStep → List ℤ
-numbers_after xs (Ok ys) = ys
-numbers_after xs (Err h) = xs
+numbers_after xs r = result_unwrap_or r xs
 
 -- how many readings an operation takes
 abbrev pub readings_of : Operation → ℕ

@@ -1,29 +1,20 @@
 //! One step of an operation on the numbers of a run.
 ghost use Rattle.macros.specs.Faults.{tested};
 ghost use Rattle.macros.specs.Number.{Number};
-ghost use Rattle.numbers.specs.Arithmetic.{computed};
-ghost use Rattle.runs.specs.Promises.{Reading, StepComplete, StepSound};
+ghost use Rattle.runs.specs.Promises.{StepComplete, StepSound};
 ghost use Rattle.runs.specs.Runs.{operand_number};
-ghost use Rattle.runs.specs.Steps.{numbers_after, put_result, readings_of, stepped};
+ghost use Rattle.runs.specs.Steps.{numbers_after, readings_of, stepped};
 ghost use Rattle.std.specs.List.{AllByRecursion};
 ghost use Rattle.std.specs.Prelude.{◌≡◌, slice_set};
 
 use crate::halts::NoStep;
-use macros::parts::{Arithmetic, Operand, Operation};
+use macros::parts::{Operand, Operation};
 use numbers::{compare, compute};
 
 /// Has no work to do: it states what the type says of a number.
 fn number_fits(number: i32)
     ensures { Number number }
 {}
-
-fn reading_fits(reading: Option<i32>)
-    ensures { Reading reading }
-{
-    if let Some(number) = reading {
-        number_fits(number);
-    }
-}
 
 /// States that each number of a slice is one of 32 bits; compiled to nothing.
 pub(crate) fn numbers_fit(numbers: &[i32])
@@ -40,17 +31,16 @@ fn operand_number(numbers: &[i32], operand: Operand) -> i32
 {
     match operand {
         Operand::Constant(constant) => constant,
-        Operand::Variable(variable) => match numbers.get(usize::from(variable)) {
-            Some(number) => *number,
-            None => 0,
-        },
+        Operand::Variable(variable) => numbers.get(usize::from(variable)).copied().unwrap_or(0),
     }
 }
 
 /// Gives the variable a number.
+#[tactic(auto, using(std::proofs::lemmas::List::set_past))]
 fn put(numbers: &mut [i32], variable: u8, number: i32)
     ensures { numbers.new ≡ slice_set numbers.old variable number }
 {
+    // The length of a slice is all that is known of it after `get_mut`, so it is written by its index.
     let variable = usize::from(variable);
     if variable < numbers.len() {
         numbers[variable] = number;
@@ -58,39 +48,33 @@ fn put(numbers: &mut [i32], variable: u8, number: i32)
 }
 
 /// Does what the operation does, with the next reading, if there is one. Without a step the numbers stay as they are.
+#[tactic(auto, using(crate::proofs::Effects::step_sound, crate::proofs::Effects::step_complete))]
 pub fn step(operation: Operation, numbers: &mut [i32], reading: Option<i32>) -> Result<(), NoStep>
     ensures answer { result ≡ tested (stepped operation numbers.old reading) }
     ensures numbers { numbers.new ≡ numbers_after numbers.old (stepped operation numbers.old reading) }
     ensures sound { StepSound numbers.old operation reading }
     ensures complete { StepComplete numbers.old operation }
 {
-    reading_fits(reading);
-    step_by(operation, numbers, reading)
-}
-
-fn step_by(operation: Operation, numbers: &mut [i32], reading: Option<i32>) -> Result<(), NoStep>
-    ensures answer { result ≡ tested (stepped operation numbers.old reading) }
-    ensures numbers { numbers.new ≡ numbers_after numbers.old (stepped operation numbers.old reading) }
-{
     match operation {
         Operation::Set { target, value } => {
             let number = operand_number(numbers, value);
             put(numbers, target, number);
-            Ok(())
         }
         Operation::Compute {
             arithmetic,
             target,
             left,
             right,
-        } => compute_into(numbers, arithmetic, target, left, right),
-        Operation::Read { target } => match reading {
-            Some(number) => {
-                put(numbers, target, number);
-                Ok(())
-            }
-            None => Err(NoStep::NoReading),
-        },
+        } => {
+            let left = operand_number(numbers, left);
+            let right = operand_number(numbers, right);
+            let number = compute(arithmetic, left, right).ok_or(NoStep::ZeroDivisor)?;
+            put(numbers, target, number);
+        }
+        Operation::Read { target } => {
+            let number = reading.ok_or(NoStep::NoReading)?;
+            put(numbers, target, number);
+        }
         Operation::Test {
             comparison,
             left,
@@ -98,34 +82,12 @@ fn step_by(operation: Operation, numbers: &mut [i32], reading: Option<i32>) -> R
         } => {
             let left = operand_number(numbers, left);
             let right = operand_number(numbers, right);
-            if compare(comparison, left, right) {
-                Ok(())
-            } else {
-                Err(NoStep::NotPassed)
+            if !compare(comparison, left, right) {
+                return Err(NoStep::NotPassed);
             }
         }
     }
-}
-
-fn compute_into(
-    numbers: &mut [i32],
-    arithmetic: Arithmetic,
-    target: u8,
-    left: Operand,
-    right: Operand,
-) -> Result<(), NoStep>
-    ensures answer { result ≡ tested (put_result numbers.old target (computed arithmetic (operand_number numbers.old left) (operand_number numbers.old right))) }
-    ensures numbers { numbers.new ≡ numbers_after numbers.old (put_result numbers.old target (computed arithmetic (operand_number numbers.old left) (operand_number numbers.old right))) }
-{
-    let left = operand_number(numbers, left);
-    let right = operand_number(numbers, right);
-    match compute(arithmetic, left, right) {
-        Some(number) => {
-            put(numbers, target, number);
-            Ok(())
-        }
-        None => Err(NoStep::ZeroDivisor),
-    }
+    Ok(())
 }
 
 /// How many readings the operation takes.
