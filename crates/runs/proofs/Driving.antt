@@ -1,9 +1,9 @@
 -- A drive that is worked out drives the path, and what drives a path is worked out.
 use Rattle.std.proofs.Common.{◌≡◌, ℕ, zero, suc, ◌+◌, ◌-◌, ◌≤◌, eqb, ltb, List, [], ◌∷◌, ◌++◌, length, get_or, drop, ℤ, Some, None, Ok, Err, Option, Result, sym, refl, ap, ◌∙◌, subst, arith, length-drop}
 use Rattle.std.proofs.lemmas.List.{drop_all, drop_more}
-use Rattle.std.proofs.lemmas.Option.{slice_get-get_or}
+use Rattle.std.proofs.lemmas.Option.{get_or_from_slice_get, slice_get-get_or, slice_get_within}
 use Rattle.std.proofs.lemmas.Bool.{cond-true, cond-false, eq-eqb, eqb-true, le-ltb, ltb-false}
-use Rattle.std.specs.List.{AllByRecursion, slice_get}
+use Rattle.std.specs.List.{All, slice_get}
 use Rattle.std.specs.Option.{IfSome}
 use Rattle.macros.specs.declared.parts.Edge.{Edge}
 use Rattle.macros.specs.declared.parts.Operation.{Operation}
@@ -28,10 +28,9 @@ use Rattle.runs.proofs.Takes.{beyond, nth_within, turn}
 abbrev state_of : Advance → State
 state_of a = state a.position.place a.numbers
 
-reading_number : (rs : List ℤ) (k : ℕ) → AllByRecursion Number rs → IfSome (slice_get rs k) Number
-reading_number [] k f = tt
-reading_number (z ∷ rs) zero f = f.0
-reading_number (z ∷ rs) (suc k) f = reading_number rs k f.1
+reading_number : (rs : List ℤ) (k : ℕ) (r : Option ℤ) → slice_get rs k ≡ r → All Number rs → IfSome r Number
+reading_number rs k None e f = tt
+reading_number rs k (Some z) e f = subst Number (get_or_from_slice_get rs k z z e) (f k z (slice_get_within rs k z e))
 
 -- the readings from k on are the one that the operation takes, and then those after it
 read_split : (t : ℕ) (xs ys rs : List ℤ) (k : ℕ) (r : Option ℤ) → slice_get rs k ≡ r → stepped (Read t) xs r ≡ Ok ys → drop k rs ≡ reading_taken (Read t) r ++ drop (k + 1) rs
@@ -52,7 +51,7 @@ edge_or_is : (n : ℕ) (o : Option Edge) (e : Edge) → edge_or n o ≡ Ok e →
 edge_or_is n None e h = err_ok h
 edge_or_is n (Some x) e h = ap Some (ok_same h)
 
-module _ (m : Macro) (rs : List ℤ) (numbers : AllByRecursion Number rs) where
+module _ (m : Macro) (rs : List ℤ) (numbers : All Number rs) where
   -- an edge that is taken makes its step
   pub taken_takes : (j : ℕ) (a b : Advance) → taken m.edges rs j a ≡ Ok b → (now : List ℤ) × (drop a.position.taken rs ≡ now ++ drop b.position.taken rs) × Takes m j (state_of a) now (state_of b)
   taken_takes j a b h =
@@ -66,7 +65,7 @@ module _ (m : Macro) (rs : List ℤ) (numbers : AllByRecursion Number rs) where
       let ys = made.0 in
       let out : beyond e k ys ≡ b = ok_same made.2 in
       let now = reading_taken e.operation (slice_get rs k) in
-      let step : Takes m j (state e.from xs) now (state e.to ys) = takes e xs now ys (edge_or_is _ _ e found.1) (step_sound xs e.operation (slice_get rs k) (reading_number rs k numbers) ys made.1) in (
+      let step : Takes m j (state e.from xs) now (state e.to ys) = takes e xs now ys (edge_or_is _ _ e found.1) (step_sound xs e.operation (slice_get rs k) (reading_number rs k _ refl numbers) ys made.1) in (
         now,
         subst (λ (w : Advance). drop k rs ≡ now ++ drop w.position.taken rs) out (readings_split e.operation xs ys rs k made.1),
         subst (λ (w : Advance). Takes m j (state_of a) now (state_of w)) out (subst (λ p. Takes m j (state p xs) now (state e.to ys)) there step),
@@ -91,7 +90,7 @@ module _ (m : Macro) (rs : List ℤ) (numbers : AllByRecursion Number rs) where
         let end = state q.place (follow m.edges rs (i + 1) path b).numbers in
         subst (λ w. Follows m (state_of a) (j ∷ path) w end) (sym t.1) (takes_on j path t.0 (drop b.position.taken rs) (state_of a) (state_of b) end t.2 (on b g))
 
-  pub drive_sound : (path : List ℕ) (xs : List ℤ) → AllByRecursion Number xs → DriveSound m path xs rs
+  pub drive_sound : (path : List ℕ) (xs : List ℤ) → All Number xs → DriveSound m path xs rs
   drive_sound path xs fits p h =
       let f = follow m.edges rs 0 path (begin xs) in
       let right = cond_ok (eqb (length xs) m.variables) (bind same f.answer (place_at_end rs)) _ p h in

@@ -1,6 +1,6 @@
 -- Runs of a macro: the states that it can be in, the steps between them, which places a run reaches, and what drives a path.
 use Rattle.std.specs.Prelude.{◌≡◌, ℕ, List, [], ◌∷◌, ◌++◌, length, ℤ, pos, Some, slice_index_or, slice_set}
-use Rattle.std.specs.List.{AllByRecursion, slice_get}
+use Rattle.std.specs.List.{All, slice_get}
 use Rattle.macros.specs.declared.parts.Arithmetic.{Arithmetic}
 use Rattle.macros.specs.declared.parts.Comparison.{Comparison}
 use Rattle.macros.specs.declared.parts.Edge.{Edge}
@@ -44,7 +44,7 @@ pub data Step (m : Macro) (s t : State) : Type 0 where
 -- a run may start with these numbers: one of 32 bits for each variable
 pub record Start (m : Macro) (xs : List ℤ) : Type 0 where
   pub one_each : length xs ≡ m.variables
-  pub in_range : AllByRecursion Number xs
+  pub in_range : All Number xs
 
 -- Run m s: some run of the macro ends in s
 pub data Run (m : Macro) : State → Type 0 where
