@@ -1,15 +1,15 @@
 -- The steps of a drive in lines, as bytes.
 use Rattle.std.specs.Prelude.{ℕ, ◌+◌, List, [], ◌∷◌, ℤ, Ok, Err, codes, decimal, Result}
 use Rattle.std.specs.Fmt.{signed_decimal}
+use Rattle.std.specs.List.{flat_map}
 use Rattle.macros.specs.declared.parts.Edge.{Edge}
 use Rattle.runs.specs.declared.halts.EdgeHalt.{EdgeHalt}
 use Rattle.runs.specs.Steps.{Advance, begin, taken}
 use Rattle.texts.specs.Text.{◌&◌}
 
 -- each number after a space
-unfoldable pub numbers_text : List ℤ → List ℕ
-numbers_text [] = []
-numbers_text (z ∷ zs) = (codes " " & signed_decimal z) & numbers_text zs
+abbrev pub numbers_text : List ℤ → List ℕ
+numbers_text zs = flat_map (λ z. codes " " & signed_decimal z) zs
 
 -- a place and the numbers there
 abbrev pub state_text : ℕ → List ℤ → List ℕ

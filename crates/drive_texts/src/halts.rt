@@ -28,10 +28,7 @@ impl fmt::Display for EdgeHaltText {
             EdgeHalt::OtherPlace { from, present } => {
                 write!(f, "leaves place {from}, the run is at place {present}")
             }
-            EdgeHalt::Operation(reason) => {
-                let text = no_step_text(reason);
-                write!(f, "{text}")
-            }
+            EdgeHalt::Operation(reason) => f.write_str(no_step_text(reason)),
         }
     }
 }
