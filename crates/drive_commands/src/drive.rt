@@ -8,7 +8,7 @@ use drive_texts::lines::drive_lines;
 use failures::{Failure, file_bytes};
 use macros::parts::Edge;
 use reading::file::MacroFile;
-use runs::drives::drive;
+use runs::drives::{Driver, drive};
 use runs::halts::DriveHalt;
 use std::alloc::{AllocError, Global};
 use std::str::FromStr;
@@ -57,13 +57,11 @@ pub fn run(rt: &HostRuntime, file: &str, options: RunOptions) -> Result<(), Fail
         // No run starts with these numbers, so there is no step to print.
         answer?;
     }
-    let lines = drive_lines(
-        heap,
-        edges.as_slice(),
-        path.as_slice(),
-        start.as_slice(),
-        readings.as_slice(),
-    )?;
+    let driver = Driver {
+        edges: edges.as_slice(),
+        readings: readings.as_slice(),
+    };
+    let lines = drive_lines(heap, driver, path.as_slice(), start.as_slice())?;
     rt.print(lines)?;
     let place = answer?;
     println!(rt; "end place {place}")?;

@@ -2,8 +2,7 @@
 ghost use Rattle.drive_texts.specs.Lines.{drive_lines, state_text};
 ghost use Rattle.std.specs.Prelude.{◌≡◌, IfOk, string_bytes};
 
-use macros::parts::Edge;
-use runs::drives::{Position, take_edge};
+use runs::drives::{Driver, Position};
 use std::alloc::Global;
 use std::fmt;
 
@@ -22,39 +21,35 @@ fn state_text(heap: Global, place: u8, numbers: &[i32]) -> Result<String, fmt::E
 /// The state at the start, and then a line for each step of the path, up to one that is not made.
 pub fn drive_lines(
     heap: Global,
-    edges: &[Edge],
+    driver: Driver,
     path: &[u16],
     start: &[i32],
-    readings: &[i32],
 ) -> Result<String, fmt::Error>
-    ensures { IfOk result (λ s. string_bytes s ≡ drive_lines edges.now path.now start.now readings.now) }
+    ensures { IfOk result (λ s. string_bytes s ≡ drive_lines driver.entry.edges.now path.now start.now driver.entry.readings.now) }
 {
     // The steps change the numbers, so they are made on a copy, and the caller's stay as they are.
-    match Vec::from_slice(heap, start) {
-        Ok(mut numbers) => lines_of(heap, edges, path, numbers.as_mut_slice(), readings),
-        Err(_) => Err(fmt::Error),
-    }
+    let mut numbers = Vec::from_slice(heap, start).map_err(|_| fmt::Error)?;
+    lines_of(heap, driver, path, numbers.as_mut_slice())
 }
 
 /// Writes the lines, and makes the steps on the numbers.
 fn lines_of(
     heap: Global,
-    edges: &[Edge],
+    driver: Driver,
     path: &[u16],
     numbers: &mut [i32],
-    readings: &[i32],
 ) -> Result<String, fmt::Error>
-    ensures { IfOk result (λ s. string_bytes s ≡ drive_lines edges.now path.now numbers.old readings.now) }
+    ensures { IfOk result (λ s. string_bytes s ≡ drive_lines driver.entry.edges.now path.now numbers.old driver.entry.readings.now) }
 {
     let mut lines = String::new(heap);
     let start = state_text(heap, 0, numbers)?;
     writeln!(lines, "start {start}")?;
     let mut position = Position { place: 0, taken: 0 };
-    for (step, edge) in path.iter().enumerate() {
-        match take_edge(edges, *edge, position, numbers, readings) {
-            Ok(next) => position = next,
-            Err(_) => return Ok(lines),
-        }
+    for (step, &edge) in path.iter().enumerate() {
+        let Ok(next) = driver.take_edge(edge, position, numbers) else {
+            return Ok(lines);
+        };
+        position = next;
         let state = state_text(heap, position.place, numbers)?;
         writeln!(lines, "step {step} edge {edge} {state}")?;
     }

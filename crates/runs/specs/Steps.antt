@@ -1,7 +1,8 @@
 -- One step and a whole path, worked out: the numbers and the place that come of it, or why it goes no further.
 use Rattle.std.specs.Prelude.{ℕ, ◌+◌, cond, List, [], ◌∷◌, length, ℤ, Some, None, Ok, Err, Option, Result, ◌==◌, nat_lt, slice_set}
 use Rattle.std.specs.List.{slice_get}
-use Rattle.std.specs.Result.{result_unwrap_or}
+use Rattle.std.specs.Option.{ok_or}
+use Rattle.std.specs.Result.{result_map_both, result_unwrap_or}
 use Rattle.macros.specs.declared.parts.Edge.{Edge}
 use Rattle.macros.specs.declared.parts.Operation.{Operation}
 use Rattle.macros.specs.declared.parts.Operation.TheVariants.{Set, Compute, Read, Test}
@@ -48,11 +49,6 @@ pub record Advance : Type 0 where
 abbrev pub advance : Position → List ℤ → Advance
 advance p xs = record { position = p; numbers = xs }
 
--- the edge that was found, or that the macro has only n edges
-abbrev pub edge_or : ℕ → Option Edge → Result Edge EdgeHalt
-edge_or n None = Err (NoSuchEdge n)
-edge_or n (Some e) = Ok e
-
 -- whether the edge leaves the present place
 abbrev pub leaves : Edge → Position → Result (Unit {0}) EdgeHalt
 leaves e p = cond (e.from == p.place) (Ok tt) (Err (OtherPlace e.from p.place))
@@ -60,19 +56,17 @@ leaves e p = cond (e.from == p.place) (Ok tt) (Err (OtherPlace e.from p.place))
 -- edge j is taken: of the edges es, from a position with its numbers, where the readings are rs
 abbrev pub taken : List Edge → List ℤ → ℕ → Advance → Result Advance EdgeHalt
 taken es rs j a =
-    bind same (edge_or (length es) (slice_get es j)) (λ e.
+    bind same (ok_or (slice_get es j) (NoSuchEdge (length es))) (λ e.
     bind same (leaves e a.position) (λ _.
     bind at_operation (stepped e.operation a.numbers (slice_get rs a.position.taken)) (λ ys.
     Ok (advance (record { place = e.to; taken = a.position.taken + readings_of e.operation }) ys))))
 
 -- the position and the numbers after an edge; one that is not taken changes no number
 abbrev pub position_taken : Result Advance EdgeHalt → Result Position EdgeHalt
-position_taken (Ok a) = Ok a.position
-position_taken (Err h) = Err h
+position_taken r = result_map_both (λ (a : Advance). a.position) same r
 
 abbrev pub numbers_taken : List ℤ → Result Advance EdgeHalt → List ℤ
-numbers_taken xs (Ok a) = a.numbers
-numbers_taken xs (Err h) = xs
+numbers_taken xs r = result_unwrap_or (result_map_both (λ (a : Advance). a.numbers) same r) xs
 
 -- what following a path comes to: the position at its end or the halt, and the numbers there
 pub record Followed : Type 0 where

@@ -1,30 +1,13 @@
 //! One step of an operation on the numbers of a run.
 ghost use Rattle.macros.specs.Faults.{tested};
-ghost use Rattle.macros.specs.Number.{Number};
 ghost use Rattle.runs.specs.Promises.{StepComplete, StepSound};
 ghost use Rattle.runs.specs.Runs.{operand_number};
 ghost use Rattle.runs.specs.Steps.{numbers_after, readings_of, stepped};
-ghost use Rattle.std.specs.List.{All};
 ghost use Rattle.std.specs.Prelude.{◌≡◌, slice_set};
 
 use crate::halts::NoStep;
 use macros::parts::{Operand, Operation};
 use numbers::{compare, compute};
-
-/// Has no work to do: states what the type says of a number.
-fn number_fits(number: i32)
-    ensures { Number number }
-{}
-
-/// Has no work to do: states what the type says of each number. A proof can cite it of unsigned numbers in a slice, but
-/// not of signed ones.
-pub(crate) fn numbers_fit(numbers: &[i32])
-    ensures { All Number numbers.now }
-{
-    for number in numbers.iter() {
-        number_fits(*number);
-    }
-}
 
 /// The operand's number. A variable beyond the numbers counts as 0; a macro that was read has none.
 fn operand_number(numbers: &[i32], operand: Operand) -> i32
