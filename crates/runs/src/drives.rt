@@ -11,7 +11,7 @@ use crate::steps::{readings_of, step};
 use macros::parts::{Edge, Macro};
 
 /// Where a drive stands: the present place, and how many readings were taken.
-#[derive(Clone, Copy)]
+#[derive(Clone, Copy, Debug, PartialEq, Eq)]
 pub struct Position {
     pub place: u8,
     pub taken: usize,

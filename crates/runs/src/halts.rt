@@ -4,7 +4,7 @@ ghost use Rattle.runs.specs.declared.halts.EdgeHalt.TheVariants.{Operation as at
 ghost use Rattle.std.specs.Prelude.{◌≡◌};
 
 /// Why an operation makes no step from the present numbers.
-#[derive(Clone, Copy)]
+#[derive(Clone, Copy, Debug, PartialEq, Eq)]
 pub enum NoStep {
     /// The divisor of a remainder is 0.
     ZeroDivisor,
@@ -15,7 +15,7 @@ pub enum NoStep {
 }
 
 /// Why an edge is not taken.
-#[derive(Clone, Copy)]
+#[derive(Clone, Copy, Debug, PartialEq, Eq)]
 pub enum EdgeHalt {
     /// The macro has only so many edges.
     NoSuchEdge { edges: usize },
@@ -26,7 +26,7 @@ pub enum EdgeHalt {
 }
 
 /// Why a path is not driven.
-#[derive(Clone, Copy)]
+#[derive(Clone, Copy, Debug, PartialEq, Eq)]
 pub enum DriveHalt {
     /// There must be a start number for each variable.
     Start {
