@@ -29,18 +29,17 @@ pub fn parse<'a>(program: Program, words: &[&'a str]) -> Result<Command<'a>, Mis
     ensures named { Named result words.now }
     ensures offered { Offered program result }
 {
-    let mistake = match (program, words) {
-        (_, ["demo"]) => return Ok(Command::Demo),
-        (_, ["show", file]) => return Ok(Command::Show { file: *file }),
-        (Program::Driving, ["run", file, options @ ..]) => match run_command(*file, options) {
-            Some(command) => return Ok(command),
-            None => Mistake::WrongOptions,
-        },
-        (_, []) => Mistake::NoCommand,
-        (_, ["demo" | "show", ..]) | (Program::Driving, ["run", ..]) => Mistake::WrongCount,
-        _ => Mistake::NoSuchCommand,
+    let named = match (program, words) {
+        (_, ["demo"]) => Ok(Command::Demo),
+        (_, ["show", file]) => Ok(Command::Show { file: *file }),
+        (Program::Driving, ["run", file, options @ ..]) => {
+            run_command(*file, options).ok_or(Mistake::WrongOptions)
+        }
+        (_, []) => Err(Mistake::NoCommand),
+        (_, ["demo" | "show", ..]) | (Program::Driving, ["run", ..]) => Err(Mistake::WrongCount),
+        _ => Err(Mistake::NoSuchCommand),
     };
-    Err(Misuse { program, mistake })
+    named.map_err(|mistake| Misuse { program, mistake })
 }
 
 /// The options of `run`, in any order and each at most once; only the readings may be left out.
