@@ -7,7 +7,6 @@ mod show;
 
 use command_words::command::{Command, parse};
 use command_words::misuse::Program;
-
 pub use failures::Failure;
 
 /// Does what the words ask for. What it prints goes to standard output; a failure is for the caller to print.

@@ -3,7 +3,7 @@ ghost use Rattle.reading.specs.Reading.{edges_in};
 ghost use Rattle.std.specs.Prelude.{◌≡◌, IfOk};
 
 use command_words::command::RunOptions;
-use command_words::misuse::{Misuse, Mistake, Program};
+use command_words::misuse::{Mistake, Misuse, Program};
 use drive_texts::lines::drive_lines;
 use failures::{Failure, file_bytes};
 use macros::parts::Edge;
@@ -65,7 +65,11 @@ pub fn run(rt: &HostRuntime, file: &str, options: RunOptions) -> Result<(), Fail
     rt.print(lines)?;
     let place = answer?;
     println!(rt; "end place {place}")?;
-    let guarded = if place == source.header.guarded { "yes" } else { "no" };
+    let guarded = if place == source.header.guarded {
+        "yes"
+    } else {
+        "no"
+    };
     println!(rt; "guarded {guarded}")?;
     Ok(())
 }

@@ -5,8 +5,7 @@
 mod drive;
 
 use command_words::command::{Command, parse};
-use command_words::misuse::{Misuse, Mistake, Program};
-
+use command_words::misuse::{Mistake, Misuse, Program};
 pub use failures::Failure;
 
 /// Does what the words ask for, where they name the command `run`. What it prints goes to standard output; a failure is

@@ -16,7 +16,7 @@ fn no_step_text(reason: NoStep) -> &'static str
 }
 
 /// Why an edge is not taken.
-#[derive(Clone, Copy)]
+#[derive(Clone, Copy, Debug)]
 pub struct EdgeHaltText(pub EdgeHalt);
 
 impl fmt::Display for EdgeHaltText {
@@ -34,7 +34,7 @@ impl fmt::Display for EdgeHaltText {
 }
 
 /// Why a path is not driven, as `stopped step 2 edge 4: comparison does not hold`.
-#[derive(Clone, Copy)]
+#[derive(Clone, Copy, Debug)]
 pub struct HaltLine(pub DriveHalt);
 
 impl fmt::Display for HaltLine {

@@ -3,11 +3,10 @@ ghost use Rattle.drive_texts.specs.Lines.{drive_lines, state_text};
 ghost use Rattle.std.specs.Prelude.{◌≡◌, IfOk, string_bytes};
 
 use runs::drives::{Driver, Position};
-use std::alloc::Global;
-use std::fmt;
+use std::alloc::{AllocError, Global};
 
 /// A place and the numbers there, as `place 3 numbers 5 -3`.
-fn state_text(heap: Global, place: u8, numbers: &[i32]) -> Result<String, fmt::Error>
+fn state_text(heap: Global, place: u8, numbers: &[i32]) -> Result<String, AllocError>
     ensures { IfOk result (λ s. string_bytes s ≡ state_text place numbers.now) }
 {
     let mut text = String::new(heap);
@@ -24,11 +23,11 @@ pub fn drive_lines(
     driver: Driver,
     path: &[u16],
     start: &[i32],
-) -> Result<String, fmt::Error>
+) -> Result<String, AllocError>
     ensures { IfOk result (λ s. string_bytes s ≡ drive_lines driver.entry.edges.now path.now start.now driver.entry.readings.now) }
 {
     // The steps change the numbers, so they are made on a copy, and the caller's stay as they are.
-    let mut numbers = Vec::from_slice(heap, start).map_err(|_| fmt::Error)?;
+    let mut numbers = Vec::from_slice(heap, start)?;
     lines_of(heap, driver, path, numbers.as_mut_slice())
 }
 
@@ -38,7 +37,7 @@ fn lines_of(
     driver: Driver,
     path: &[u16],
     numbers: &mut [i32],
-) -> Result<String, fmt::Error>
+) -> Result<String, AllocError>
     ensures { IfOk result (λ s. string_bytes s ≡ drive_lines driver.entry.edges.now path.now numbers.old driver.entry.readings.now) }
 {
     let mut lines = String::new(heap);

@@ -16,7 +16,7 @@ use std::{fmt, fs, io};
 use texts::faults::RefusalLine;
 
 /// What a command answers where it fails. A refusal is kept whole, so that nothing of it is lost on the way to its line.
-#[derive(Drop)]
+#[derive(Debug, Drop)]
 pub enum Failure {
     Usage(Misuse),
     File { name: String, error: io::Error },

@@ -18,7 +18,7 @@ pub struct Position {
 }
 
 /// What a drive goes by, which stays the same throughout: the edges of the macro, and the readings.
-#[derive(Clone, Copy)]
+#[derive(Clone, Copy, Debug)]
 pub struct Driver<'a> {
     pub edges: &'a [Edge],
     pub readings: &'a [i32],
