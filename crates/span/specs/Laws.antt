@@ -64,11 +64,17 @@ combine_law Remainder s t x y z f g p q e = remainder_sound s t x y z f p q e
 part_stands : (s : Span) (l h x : ℤ) → Number x → s.low ≤ℤ l → l ≤ℤ x → x ≤ℤ h → h ≤ℤ s.high → Stands span_ops (span_of l h) x
 part_stands s l h x f a b c d = span_stands l h x b c (number_between s.low l x a b s.low_fits f) (number_between x h s.high c d f s.high_fits)
 
+above : (l x : ℤ) → l ≤ℤ x → (x ≢ l) → (l +ℤ pos 1) ≤ℤ x
+above l x h n = omega (arith, ints)
+
+below : (x h : ℤ) → x ≤ℤ h → (x ≢ h) → x ≤ℤ (h -ℤ pos 1)
+below x h l n = omega (arith, ints)
+
 without_stands : (s : Span) (k x : ℤ) → Number x → Between s x → (x ≢ k) → Stands span_ops (without s k) x
 without_stands s k x f p n = go (same_int s.low k) (same_int s.high k) (same_is s.low k) (same_is s.high k) where
   go : (a b : Bool) → (a ≡ true → s.low ≡ k) → (b ≡ true → s.high ≡ k) → Stands span_ops (cond a (span_of (k +ℤ pos 1) s.high) (cond b (span_of s.low (k -ℤ pos 1)) (Some s))) x
-  go true b l h = let e = l refl in part_stands s _ _ x f (omega (arith, ints)) (omega (arith, ints)) p.1 (≤ℤ_refl _)
-  go false true l h = let e = h refl in part_stands s _ _ x f (≤ℤ_refl _) p.0 (omega (arith, ints)) (omega (arith, ints))
+  go true b l h = let e = l refl in part_stands s _ _ x f (omega (arith, ints)) (above k x (omega (arith, ints)) n) p.1 (≤ℤ_refl _)
+  go false true l h = let e = h refl in part_stands s _ _ x f (≤ℤ_refl _) p.0 (below x k (omega (arith, ints)) n) (omega (arith, ints))
   go false false l h = p
 
 narrow_law : (c : Comparison) (s t : Span) (x y : ℤ) → Number x → Number y → Between s x → Between t y → holds c x y ≡ true → Stands span_ops (narrowed c s t) x
