@@ -56,8 +56,9 @@ fn the_longest_macro_reads_back(rt: HostRuntime) -> Result<(), Fail> {
     let Ok(opened) = MacroFile::open(file) else {
         return Err(Fail::new("not opened"));
     };
-    for number in 0..opened.header.edges {
-        assert!(rt; opened.edge_at(usize::from(number)) == edge(number));
+    assert!(rt; opened.edges().count() == 511);
+    for (number, found) in (0u16..).zip(opened.edges()) {
+        assert!(rt; found == edge(number));
     }
     Ok(())
 }

@@ -141,18 +141,20 @@ impl From<AllocError> for Failure {
     }
 }
 
-/// The first byte that packing left other than in the macro's file, or beyond it other than it was.
-fn first_difference(packed: &[u8], file: &[u8]) -> Option<Deviation> {
-    packed
+/// Whether packing left the bytes of the macro's file, and beyond them what was there; the first other byte if not.
+fn test_bytes(packed: &[u8], file: &[u8]) -> Result<(), Deviation> {
+    let other = packed
         .iter()
         .zip(file.iter().chain(&BEYOND))
         .enumerate()
-        .find(|(_, (found, expected))| found != expected)
-        .map(|(number, (found, expected))| Deviation::Byte {
+        .find(|(_, (found, expected))| found != expected);
+    other.map_or(Ok(()), |(number, (found, expected))| {
+        Err(Deviation::Byte {
             number,
             found: *found,
             expected: *expected,
         })
+    })
 }
 
 /// Packs the macro into memory that is a little longer than its file, and compares all of it.
@@ -162,10 +164,8 @@ fn run_pack(heap: Global, source: Macro, bytes: &[u8]) -> Result<Agreement, Fail
     if count != bytes.len() {
         return Err(Deviation::Packed { count }.into());
     }
-    match first_difference(out.as_slice(), bytes) {
-        Some(deviation) => Err(deviation.into()),
-        None => Ok(Agreement::Read),
-    }
+    test_bytes(out.as_slice(), bytes)?;
+    Ok(Agreement::Read)
 }
 
 /// Reads the macro and packs it again.
