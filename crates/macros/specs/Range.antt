@@ -1,6 +1,6 @@
 -- Which macros a file can hold: those whose parts are in range.
 use Rattle.std.specs.Prelude.{ℕ, ◌<◌, ◌≤◌, List, length}
-use Rattle.std.specs.List.{AllByRecursion}
+use Rattle.std.specs.List.{All}
 use Rattle.macros.specs.declared.parts.Edge.{Edge}
 use Rattle.macros.specs.declared.parts.Operand.{Operand}
 use Rattle.macros.specs.declared.parts.Operand.TheVariants.{Constant, Variable}
@@ -31,7 +31,7 @@ pub record InRange (m : Macro) : Type 0 where
   pub few_places : m.places ≤ 255
   pub guarded : m.guarded < m.places
   pub few_edges : length m.edges ≤ 511
-  pub edges : AllByRecursion (EdgeInRange m.variables m.places) m.edges
+  pub edges : All (EdgeInRange m.variables m.places) m.edges
 
 -- what the type of a constant says of it: it is a number of 32 bits
 abbrev pub SizedOperand : Operand → Type 0
@@ -48,4 +48,4 @@ abbrev pub SizedEdge : Edge → Type 0
 SizedEdge x = SizedOperation x.operation
 
 abbrev pub Sized : List Edge → Type 0
-Sized xs = AllByRecursion SizedEdge xs
+Sized xs = All SizedEdge xs

@@ -1,8 +1,9 @@
 -- What packing promises follows from what it answers and what the memory then holds.
 use Rattle.std.proofs.Common.{◌≡◌, ℕ, ◌+◌, ◌≤◌, ltb, List, [], ◌∷◌, ◌++◌, length, take, drop, IfOk, Ok, Err, Result, sym, refl, ap, ◌∙◌, subst, arith}
 use Rattle.std.proofs.lemmas.List.{take_at}
+use Rattle.std.proofs.lemmas.List.Elements.{All-cons, All-head, All-nil, All-tail}
 use Rattle.std.proofs.lemmas.Bool.{le-ltb, ltb-false}
-use Rattle.std.specs.List.{AllByRecursion}
+use Rattle.std.specs.List.{All}
 use Rattle.macros.specs.declared.parts.Edge.{Edge}
 use Rattle.macros.specs.declared.parts.Header.{Header}
 use Rattle.macros.specs.Faults.{bind, in_edge, in_edges, in_header}
@@ -17,7 +18,7 @@ use Rattle.packing.specs.Encode.{fields_of, header_fields}
 use Rattle.packing.specs.Faults.{in_pack, no_room}
 use Rattle.packing.specs.Packing.{pack_answer, pack_memory, packed, test_edges, test_macro, test_room}
 use Rattle.packing.specs.Promises.{PacksBack, Promises}
-use Rattle.macros.specs.Range.{EdgeInRange, InRange, Sized}
+use Rattle.macros.specs.Range.{EdgeInRange, InRange, Sized, SizedEdge}
 use Rattle.packing.proofs.Files.{length_packed}
 use Rattle.packing.proofs.Headers.{macro_header_in, macro_header_out}
 use Rattle.packing.proofs.Ranges.{edge_in, edge_out}
@@ -25,19 +26,21 @@ use Rattle.packing.proofs.RoundTrip.{packed_reads, read_in_range, read_packed}
 
 -- ---- the tests take exactly what is in range
 
-edges_in : (h : Header) (i : ℕ) (xs : List Edge) → AllByRecursion (EdgeInRange h.variables h.places) xs → test_edges h i xs ≡ Ok tt
+edges_in : (h : Header) (i : ℕ) (xs : List Edge) → All (EdgeInRange h.variables h.places) xs → test_edges h i xs ≡ Ok tt
 unfolding test_edges
 edges_in h i [] all = refl
 edges_in h i (x ∷ xs) all =
-    ap (λ r. bind in_edge r (λ _. test_edges h (i + 1) xs)) (edge_in h.variables h.places (edge_bit i) x all.0)
-    ∙ edges_in h (i + 1) xs all.1
+    ap (λ r. bind in_edge r (λ _. test_edges h (i + 1) xs)) (edge_in h.variables h.places (edge_bit i) x (All-head (EdgeInRange h.variables h.places) x xs all))
+    ∙ edges_in h (i + 1) xs (All-tail (EdgeInRange h.variables h.places) x xs all)
 
-edges_out : (h : Header) (i : ℕ) (xs : List Edge) → Sized xs → test_edges h i xs ≡ Ok tt → AllByRecursion (EdgeInRange h.variables h.places) xs
+edges_out : (h : Header) (i : ℕ) (xs : List Edge) → Sized xs → test_edges h i xs ≡ Ok tt → All (EdgeInRange h.variables h.places) xs
 unfolding test_edges
-edges_out h i [] sized e = tt
+edges_out h i [] sized e = All-nil (EdgeInRange h.variables h.places)
 edges_out h i (x ∷ xs) sized e =
     let a = bind_ok in_edge (decode_edge h.variables h.places (edge_bit i) (fields_of x)) _ tt e in
-    (edge_out h.variables h.places (edge_bit i) x a.0 sized.0 a.1, edges_out h (i + 1) xs sized.1 a.2)
+    All-cons (EdgeInRange h.variables h.places) x xs
+    (edge_out h.variables h.places (edge_bit i) x a.0 (All-head SizedEdge x xs sized) a.1)
+    (edges_out h (i + 1) xs (All-tail SizedEdge x xs sized) a.2)
 
 macro_in : (m : Macro) → InRange m → test_macro m ≡ Ok (header_of m)
 macro_in m r =
@@ -61,7 +64,7 @@ macro_out m h sized e =
       few_places = omega (arith, r.few_places);
       guarded = omega (arith, r.guarded);
       few_edges = omega (arith, r.few_edges);
-      edges = subst (λ (x : Header). AllByRecursion (EdgeInRange x.variables x.places) m.edges) (sym d.0) (edges_out a.0 0 m.edges sized b.1);
+      edges = subst (λ (x : Header). All (EdgeInRange x.variables x.places) m.edges) (sym d.0) (edges_out a.0 0 m.edges sized b.1);
     }
 
 -- ---- the answer

@@ -2,8 +2,9 @@
 use Rattle.std.proofs.Common.{◌≡◌, ℕ, zero, suc, ◌+◌, ◌*◌, ◌^◌, ◌<◌, ◌≤◌, true, false, eqb, ltb, List, [], ◌∷◌, length, replicate, Ok, Result, sym, refl, ap, ◌∙◌, subst, ap₂, arith, w32}
 use mir.Facts.{Fits-of_z}
 use Rattle.std.proofs.lemmas.List.{length-replicate}
+use Rattle.std.proofs.lemmas.List.Elements.{All-cons, All-head, All-nil, All-tail}
 use Rattle.std.proofs.lemmas.Bool.{eq-eqb, le-ltb}
-use Rattle.std.specs.List.{AllByRecursion}
+use Rattle.std.specs.List.{All}
 use Rattle.bits.specs.Field.{Bytes, field}
 use Rattle.bits.proofs.Appends.{bytes_same}
 use Rattle.bits.proofs.FieldLaws.{field_lt, field_none, field_split}
@@ -85,7 +86,7 @@ header_narrow m r =
 -- ---- what is packed reads back
 
 module _ (h : Header) (few : h.variables ≤ 15) (small : h.places ≤ 255) where
-  edges_read : (bs : List ℕ) (i : ℕ) (xs : List Edge) → AllByRecursion (EdgeInRange h.variables h.places) xs → edge_bit (i + length xs) ≤ 8 * length bs → read_edges (put_edges bs i xs) h i (length xs) ≡ Ok xs
+  edges_read : (bs : List ℕ) (i : ℕ) (xs : List Edge) → All (EdgeInRange h.variables h.places) xs → edge_bit (i + length xs) ≤ 8 * length bs → read_edges (put_edges bs i xs) h i (length xs) ≡ Ok xs
   unfolding put_edges read_edges
   edges_read bs i [] all room = refl
   edges_read bs i (x ∷ xs) all room =
@@ -93,12 +94,13 @@ module _ (h : Header) (few : h.variables ≤ 15) (small : h.places ≤ 255) wher
       let at = edge_bit i in
       let one = put_edge bs i x in
       let whole = put_edges one (i + 1) xs in
+      let range = All-head (EdgeInRange h.variables h.places) x xs all in
       let n = length_fields bs at (edge_list y) in
       let t = edge_total y in
-      let written : Held one at (edge_list y) = fields_held bs at 0 (edge_list y) (edge_row y) (omega arith) (edge_narrow h.variables h.places x few small all.0) in
+      let written : Held one at (edge_list y) = fields_held bs at 0 (edge_list y) (edge_row y) (omega arith) (edge_narrow h.variables h.places x few small range) in
       let kept : Held whole at (edge_list y) = held_kept one whole at 0 (edge_list y) (edge_row y) (λ p w le. edges_before one (i + 1) xs (omega arith) p w (omega arith)) written in
-      let here : read_edge whole h i ≡ Ok x = ap (λ f. bind in_edge (decode_edge h.variables h.places at f) (λ e. Ok e)) (edge_read whole at y kept) ∙ ap (λ r. bind in_edge r (λ e. Ok e)) (edge_in h.variables h.places at x all.0) in
-      let rest : read_edges whole h (i + 1) (length xs) ≡ Ok xs = edges_read one (i + 1) xs all.1 (omega arith) in
+      let here : read_edge whole h i ≡ Ok x = ap (λ f. bind in_edge (decode_edge h.variables h.places at f) (λ e. Ok e)) (edge_read whole at y kept) ∙ ap (λ r. bind in_edge r (λ e. Ok e)) (edge_in h.variables h.places at x range) in
+      let rest : read_edges whole h (i + 1) (length xs) ≡ Ok xs = edges_read one (i + 1) xs (All-tail (EdgeInRange h.variables h.places) x xs all) (omega arith) in
       ap₂ (λ (r : Result Edge EdgeFault) (s : Result (List Edge) EdgeFault). bind same r (λ e. bind same s (λ es. Ok (e ∷ es)))) here rest
 
 module _ (m : Macro) (r : InRange m) where
@@ -157,14 +159,14 @@ edge_there bs h i x e =
     let b = edge_back h.variables h.places (edge_bit i) (edge_fields_at bs (edge_bit i)) x (fields_narrow bs (edge_bit i)) (edge_decoded bs h i x e) in
     (edge_held bs (edge_bit i) (fields_of x) (sym b.0), b.1)
 
-edges_in_range : (bs : List ℕ) (h : Header) (i k : ℕ) (xs : List Edge) → read_edges bs h i k ≡ Ok xs → AllByRecursion (EdgeInRange h.variables h.places) xs
+edges_in_range : (bs : List ℕ) (h : Header) (i k : ℕ) (xs : List Edge) → read_edges bs h i k ≡ Ok xs → All (EdgeInRange h.variables h.places) xs
 unfolding read_edges
-edges_in_range bs h i zero xs e = subst (λ ys. AllByRecursion (EdgeInRange h.variables h.places) ys) (ok_same e) tt
+edges_in_range bs h i zero xs e = subst (λ ys. All (EdgeInRange h.variables h.places) ys) (ok_same e) (All-nil (EdgeInRange h.variables h.places))
 edges_in_range bs h i (suc k) xs e =
     let a = bind_ok same (read_edge bs h i) _ xs e in
     let b = bind_ok same (read_edges bs h (i + 1) k) _ xs a.2 in
-    subst (λ ys. AllByRecursion (EdgeInRange h.variables h.places) ys) (ok_same b.2)
-    ((edge_there bs h i a.0 a.1).1, edges_in_range bs h (i + 1) k b.0 b.1)
+    subst (λ ys. All (EdgeInRange h.variables h.places) ys) (ok_same b.2)
+    (All-cons (EdgeInRange h.variables h.places) a.0 b.0 (edge_there bs h i a.0 a.1).1 (edges_in_range bs h (i + 1) k b.0 b.1))
 
 -- a macro that is read is in range
 pub read_in_range : (bs : List ℕ) (m : Macro) → read_macro bs ≡ Ok m → InRange m

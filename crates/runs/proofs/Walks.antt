@@ -5,7 +5,7 @@ use lib.Signed.{mag_rem}
 use Rattle.std.proofs.lemmas.Option.{get_or_from_slice_get, slice_get_within}
 use Rattle.std.specs.List.{All, slice_get}
 use Rattle.std.proofs.lemmas.List.{get_or_past}
-use Rattle.std.proofs.lemmas.List.Elements.{All-from_recursion, All-get_or, All-replicate, All-set}
+use Rattle.std.proofs.lemmas.List.Elements.{All-get_or, All-replicate, All-set}
 use Rattle.macros.specs.declared.parts.Arithmetic.{Arithmetic}
 use Rattle.macros.specs.declared.parts.Arithmetic.TheVariants.{Add, Subtract, Multiply, Remainder}
 use Rattle.macros.specs.declared.parts.Edge.{Edge}
@@ -70,7 +70,7 @@ gives_number Remainder x y z n r = subst Number (remains_int_rem x y z r) (omega
 
 module _ (m : Macro) (here : InRange m) where
   edge_in : (j : ℕ) (e : Edge) → slice_get m.edges j ≡ Some e → EdgeInRange m.variables m.places e
-  edge_in j e h = subst (EdgeInRange m.variables m.places) (get_or_from_slice_get m.edges j e e h) (All-from_recursion _ m.edges here.edges j e (slice_get_within m.edges j e h))
+  edge_in j e h = subst (EdgeInRange m.variables m.places) (get_or_from_slice_get m.edges j e e h) (here.edges j e (slice_get_within m.edges j e h))
 
   put_number : (xs : List ℤ) (t : ℕ) (z : ℤ) → Start m xs → Number z → Start m (set xs t z)
   put_number xs t z s n = record { one_each = length-set xs t z ∙ s.one_each; in_range = All-set Number xs t z n s.in_range }
