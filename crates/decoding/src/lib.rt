@@ -7,7 +7,6 @@ pub mod fields;
 
 ghost use Rattle.std.specs.Prelude.{◌≡◌};
 ghost use Rattle.decoding.specs.Decode.{below as is_below, decode_compute, decode_edge, decode_header, decode_operand, decode_operation, decode_read, decode_set, decode_test, form_at, within as is_within, wrong, zeroed as is_zeroed};
-ghost use Rattle.macros.specs.declared.layout.Field.TheVariants.{From as from_field, To as to_field, Target as target_field, Left as left_field, Right as right_field};
 
 use fields::{EdgeFields, HeaderFields};
 use macros::faults::FieldFault;
@@ -120,13 +119,19 @@ impl EdgeNumbers {
         }
     }
 
-    fn place(self, field: Field, number: u32) -> Result<u8, FieldFault>
-        ensures { result ≡ is_below self.start.bit field number self.header.places }
+    /// The number of a place or a variable, which is below how many of them there are.
+    fn below(self, field: Field, number: u32, limit: u8) -> Result<u8, FieldFault>
+        ensures { result ≡ is_below self.start.bit field number limit }
     {
-        let place = self
-            .found(field, number)
-            .below(u32::from(self.header.places))?;
-        Ok(place as u8)
+        let number = self.found(field, number).below(u32::from(limit))?;
+        Ok(number as u8)
+    }
+
+    fn operand(self, field: Field, mark: u32, number: u32) -> Result<Operand, FieldFault>
+        ensures { result ≡ decode_operand self.header.variables self.start.bit field mark number }
+    {
+        self.found(field, number)
+            .operand(mark, self.header.variables)
     }
 
     fn form(self) -> Result<Form, FieldFault>
@@ -136,33 +141,11 @@ impl EdgeNumbers {
         Form::try_from(found.number).map_err(|_| found.fault())
     }
 
-    fn target(self) -> Result<u8, FieldFault>
-        ensures { result ≡ is_below self.start.bit target_field self.fields.target self.header.variables }
-    {
-        let found = self.found(Field::Target, self.fields.target);
-        let target = found.below(u32::from(self.header.variables))?;
-        Ok(target as u8)
-    }
-
-    fn left(self) -> Result<Operand, FieldFault>
-        ensures { result ≡ decode_operand self.header.variables self.start.bit left_field self.fields.left_mark self.fields.left }
-    {
-        let found = self.found(Field::Left, self.fields.left);
-        found.operand(self.fields.left_mark, self.header.variables)
-    }
-
-    fn right(self) -> Result<Operand, FieldFault>
-        ensures { result ≡ decode_operand self.header.variables self.start.bit right_field self.fields.right_mark self.fields.right }
-    {
-        let found = self.found(Field::Right, self.fields.right);
-        found.operand(self.fields.right_mark, self.header.variables)
-    }
-
     fn set(self) -> Result<Operation, FieldFault>
         ensures { result ≡ decode_set self.header.variables self.start.bit self.fields }
     {
-        let target = self.target()?;
-        let value = self.left()?;
+        let target = self.below(Field::Target, self.fields.target, self.header.variables)?;
+        let value = self.operand(Field::Left, self.fields.left_mark, self.fields.left)?;
         self.found(Field::RightMark, self.fields.right_mark)
             .zeroed()?;
         self.found(Field::Right, self.fields.right).zeroed()?;
@@ -172,9 +155,9 @@ impl EdgeNumbers {
     fn compute(self, arithmetic: Arithmetic) -> Result<Operation, FieldFault>
         ensures { result ≡ decode_compute self.header.variables self.start.bit arithmetic self.fields }
     {
-        let target = self.target()?;
-        let left = self.left()?;
-        let right = self.right()?;
+        let target = self.below(Field::Target, self.fields.target, self.header.variables)?;
+        let left = self.operand(Field::Left, self.fields.left_mark, self.fields.left)?;
+        let right = self.operand(Field::Right, self.fields.right_mark, self.fields.right)?;
         Ok(Operation::Compute {
             arithmetic,
             target,
@@ -186,7 +169,7 @@ impl EdgeNumbers {
     fn read(self) -> Result<Operation, FieldFault>
         ensures { result ≡ decode_read self.header.variables self.start.bit self.fields }
     {
-        let target = self.target()?;
+        let target = self.below(Field::Target, self.fields.target, self.header.variables)?;
         self.found(Field::LeftMark, self.fields.left_mark).zeroed()?;
         self.found(Field::Left, self.fields.left).zeroed()?;
         self.found(Field::RightMark, self.fields.right_mark)
@@ -199,8 +182,8 @@ impl EdgeNumbers {
         ensures { result ≡ decode_test self.header.variables self.start.bit comparison self.fields }
     {
         self.found(Field::Target, self.fields.target).zeroed()?;
-        let left = self.left()?;
-        let right = self.right()?;
+        let left = self.operand(Field::Left, self.fields.left_mark, self.fields.left)?;
+        let right = self.operand(Field::Right, self.fields.right_mark, self.fields.right)?;
         Ok(Operation::Test {
             comparison,
             left,
@@ -222,8 +205,8 @@ impl EdgeNumbers {
     fn edge(self) -> Result<Edge, FieldFault>
         ensures { result ≡ decode_edge self.header.variables self.header.places self.start.bit self.fields }
     {
-        let from = self.place(Field::From, self.fields.from)?;
-        let to = self.place(Field::To, self.fields.to)?;
+        let from = self.below(Field::From, self.fields.from, self.header.places)?;
+        let to = self.below(Field::To, self.fields.to, self.header.places)?;
         let form = self.form()?;
         let operation = self.operation(form)?;
         self.found(Field::EdgeFilling, self.fields.filling)
