@@ -6,7 +6,7 @@ use Rattle.macros.specs.declared.parts.Arithmetic.TheVariants.{Add, Subtract, Mu
 use Rattle.macros.specs.declared.parts.Comparison.{Comparison}
 use Rattle.macros.specs.declared.parts.Comparison.TheVariants.{Equal, NotEqual, Less, AtMost, Greater, AtLeast}
 
--- Whether two numbers are the same. By cases, and not by the library's int_eq, with which the check no longer finds the proof of a remainder of spans.
+-- Whether two numbers are the same. By cases, and not by the library's int_eq, with which the check does not find the proof of a remainder of spans.
 abbrev pub same_int : ℤ → ℤ → Bool
 same_int (pos a) (pos b) = a == b
 same_int (pos a) (negsuc b) = false

@@ -28,11 +28,7 @@ pub fn compute(arithmetic: Arithmetic, left: i32, right: i32) -> Option<i32>
 fn remainder(left: i32, right: i32) -> Option<i32>
     ensures { result ≡ computed Arithmetic.Remainder left right }
 {
-    if right == 0 {
-        None
-    } else {
-        Some(left.wrapping_rem(right))
-    }
+    (right != 0).then(|| left.wrapping_rem(right))
 }
 
 /// Whether the comparison holds of the two numbers.
