@@ -2,7 +2,8 @@
 //! open: any start below 0. In macro B there is none, since the variable is set to 0 before it is tested.
 ghost use Rattle.macros.specs.Lent.{given};
 ghost use Rattle.reading.specs.Reading.{read_macro};
-ghost use Rattle.std.specs.Prelude.{◌≡◌, IfOk, Ok};
+ghost use Rattle.failures.specs.Failures.{OfShowing};
+ghost use Rattle.std.specs.Prelude.{◌≡◌, IfErr, IfOk, Ok};
 
 use crate::show::show_lines;
 use failures::Failure;
@@ -15,7 +16,8 @@ const LONGEST: usize = 6136;
 
 /// The bytes of a macro, which read back as that macro.
 fn packed(heap: Global, source: Macro) -> Result<Vec<u8>, Failure>
-    ensures { IfOk result (λ v. read_macro v.items ≡ Ok (given source.entry)) }
+    ensures reads_back { IfOk result (λ v. read_macro v.items ≡ Ok (given source.entry)) }
+    ensures failure { IfErr result OfShowing }
 {
     let mut bytes = vec![in heap; 0; LONGEST]?;
     let count = pack(source, bytes.as_mut_slice())?;
@@ -23,7 +25,9 @@ fn packed(heap: Global, source: Macro) -> Result<Vec<u8>, Failure>
     Ok(bytes)
 }
 
-fn show_packed(rt: &HostRuntime, name: &str, source: Macro) -> Result<(), Failure> {
+fn show_packed(rt: &HostRuntime, name: &str, source: Macro) -> Result<(), Failure>
+    ensures { IfErr result OfShowing }
+{
     let bytes = packed(rt.alloc(), source)?;
     let digits = hex::encode(rt.alloc(), bytes.as_slice())?;
     let lines = show_lines(rt.alloc(), bytes.as_slice())?;
@@ -47,7 +51,9 @@ fn test_edge(from: u8, to: u8, comparison: Comparison) -> Edge {
     }
 }
 
-fn show_a(rt: &HostRuntime) -> Result<(), Failure> {
+fn show_a(rt: &HostRuntime) -> Result<(), Failure>
+    ensures { IfErr result OfShowing }
+{
     let edges = [test_edge(0, 1, Comparison::Less)];
     let source = Macro {
         variables: 1,
@@ -58,7 +64,9 @@ fn show_a(rt: &HostRuntime) -> Result<(), Failure> {
     show_packed(rt, "A", source)
 }
 
-fn show_b(rt: &HostRuntime) -> Result<(), Failure> {
+fn show_b(rt: &HostRuntime) -> Result<(), Failure>
+    ensures { IfErr result OfShowing }
+{
     let set = Operation::Set {
         target: 0,
         value: Operand::Constant(0),
@@ -79,7 +87,9 @@ fn show_b(rt: &HostRuntime) -> Result<(), Failure> {
 }
 
 /// Prints for each macro its bytes, and the lines that they are shown by.
-pub fn demo(rt: &HostRuntime) -> Result<(), Failure> {
+pub fn demo(rt: &HostRuntime) -> Result<(), Failure>
+    ensures { IfErr result OfShowing }
+{
     show_a(rt)?;
     show_b(rt)
 }

@@ -2,6 +2,9 @@
 
 #![tactic(auto)]
 
+ghost use Rattle.failures.specs.Failures.{OfShowing};
+ghost use Rattle.std.specs.Prelude.{IfErr};
+
 mod demo;
 mod show;
 
@@ -10,7 +13,9 @@ use command_words::misuse::Program;
 pub use failures::Failure;
 
 /// Does what the words ask for. What it prints goes to standard output; a failure is for the caller to print.
-pub fn run(rt: &HostRuntime, words: &[&str]) -> Result<(), Failure> {
+pub fn run(rt: &HostRuntime, words: &[&str]) -> Result<(), Failure>
+    ensures { IfErr result OfShowing }
+{
     match parse(Program::Showing, words)? {
         Command::Demo => demo::demo(rt),
         Command::Show { file } => show::show(rt, file),

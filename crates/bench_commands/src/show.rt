@@ -1,5 +1,7 @@
 //! Shows the macro in a file.
 ghost use Rattle.bench_commands.specs.Failures.{Shown};
+ghost use Rattle.failures.specs.Failures.{OfShowing};
+ghost use Rattle.std.specs.Prelude.{IfErr};
 
 use failures::{Failure, file_bytes};
 use reading::file::MacroFile;
@@ -8,7 +10,8 @@ use texts::lines::macro_lines;
 
 /// The lines that these bytes are shown by, or the refusal of `read`.
 pub fn show_lines(heap: Global, bytes: &[u8]) -> Result<String, Failure>
-    ensures { Shown result bytes.now }
+    ensures shown { Shown result bytes.now }
+    ensures failure { IfErr result OfShowing }
 {
     let file = MacroFile::open(bytes)?;
     let lines = macro_lines(heap, file)?;
@@ -16,7 +19,9 @@ pub fn show_lines(heap: Global, bytes: &[u8]) -> Result<String, Failure>
 }
 
 /// Prints the lines of the macro in a file.
-pub fn show(rt: &HostRuntime, file: &str) -> Result<(), Failure> {
+pub fn show(rt: &HostRuntime, file: &str) -> Result<(), Failure>
+    ensures { IfErr result OfShowing }
+{
     let bytes = file_bytes(rt, file)?;
     let lines = show_lines(rt.alloc(), bytes.as_slice())?;
     rt.print(lines)?;

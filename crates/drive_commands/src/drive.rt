@@ -1,6 +1,7 @@
 //! Drives a path through the macro in a file.
 ghost use Rattle.reading.specs.Reading.{edges_in};
-ghost use Rattle.std.specs.Prelude.{◌≡◌, IfOk};
+ghost use Rattle.failures.specs.Failures.{OfDriving};
+ghost use Rattle.std.specs.Prelude.{◌≡◌, IfErr, IfOk};
 
 use command_words::command::RunOptions;
 use command_words::misuse::{Mistake, Misuse, Program};
@@ -17,6 +18,7 @@ use std::str::FromStr;
 fn list<T: FromStr + Drop>(heap: Global, word: &str, mistake: Mistake) -> Result<Vec<T>, Failure>
 where
     <T as FromStr>::Err: Drop,
+    ensures { IfErr result OfDriving }
 {
     if word.is_empty() {
         return Ok(Vec::new(heap));
@@ -38,7 +40,9 @@ fn edges_of(heap: Global, file: MacroFile) -> Result<Vec<Edge>, AllocError>
 }
 
 /// Prints the steps of the path, and then the place where it ends, and whether that is the guarded place.
-pub fn run(rt: &HostRuntime, file: &str, options: RunOptions) -> Result<(), Failure> {
+pub fn run(rt: &HostRuntime, file: &str, options: RunOptions) -> Result<(), Failure>
+    ensures { IfErr result OfDriving }
+{
     let heap = rt.alloc();
     let start: Vec<i32> = list(heap, options.start, Mistake::StartNumbers)?;
     let readings: Vec<i32> = list(heap, options.readings, Mistake::ReadingNumbers)?;

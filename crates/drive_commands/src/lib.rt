@@ -2,6 +2,9 @@
 
 #![tactic(auto)]
 
+ghost use Rattle.failures.specs.Failures.{OfDriving};
+ghost use Rattle.std.specs.Prelude.{IfErr};
+
 mod drive;
 
 use command_words::command::{Command, parse};
@@ -10,7 +13,9 @@ pub use failures::Failure;
 
 /// Does what the words ask for, where they name the command `run`. What it prints goes to standard output; a failure is
 /// for the caller to print.
-pub fn run(rt: &HostRuntime, words: &[&str]) -> Result<(), Failure> {
+pub fn run(rt: &HostRuntime, words: &[&str]) -> Result<(), Failure>
+    ensures { IfErr result OfDriving }
+{
     let program = Program::Driving;
     match parse(program, words)? {
         Command::Run { file, options } => drive::run(rt, file, options),

@@ -23,3 +23,30 @@ OfSystem (Read r) = ⊥
 OfSystem (Pack r) = ⊥
 OfSystem (Drive h) = ⊥
 OfSystem (System e) = Unit {0}
+
+-- a file could not be read, or memory or the output failed
+abbrev pub OfFile : Failure → Type 0
+OfFile (Usage m) = ⊥
+OfFile (File name e) = Unit {0}
+OfFile (Read r) = ⊥
+OfFile (Pack r) = ⊥
+OfFile (Drive h) = ⊥
+OfFile (System e) = Unit {0}
+
+-- no path was driven, so none was halted
+abbrev pub OfShowing : Failure → Type 0
+OfShowing (Usage m) = Unit {0}
+OfShowing (File name e) = Unit {0}
+OfShowing (Read r) = Unit {0}
+OfShowing (Pack r) = Unit {0}
+OfShowing (Drive h) = ⊥
+OfShowing (System e) = Unit {0}
+
+-- no macro was packed, so none was refused
+abbrev pub OfDriving : Failure → Type 0
+OfDriving (Usage m) = Unit {0}
+OfDriving (File name e) = Unit {0}
+OfDriving (Read r) = Unit {0}
+OfDriving (Pack r) = ⊥
+OfDriving (Drive h) = Unit {0}
+OfDriving (System e) = Unit {0}

@@ -2,9 +2,9 @@
 
 #![tactic(auto)]
 
-ghost use Rattle.failures.specs.Failures.{OfSystem, failure_text};
+ghost use Rattle.failures.specs.Failures.{OfFile, OfSystem, failure_text};
 ghost use Rattle.failures.specs.declared.Failure.TheVariants.{Drive as not_driven, Pack as not_packed, Read as not_read, Usage as misused};
-ghost use Rattle.std.specs.Prelude.{◌≡◌};
+ghost use Rattle.std.specs.Prelude.{◌≡◌, IfErr};
 
 use command_words::misuse::Misuse;
 use drive_texts::halts::HaltLine;
@@ -106,12 +106,11 @@ impl From<fmt::Error> for Failure {
 }
 
 /// The bytes of a file, or a failure that names the file.
-pub fn file_bytes(rt: &HostRuntime, name: &str) -> Result<Vec<u8>, Failure> {
-    match fs::read(rt, name) {
-        Ok(bytes) => Ok(bytes),
-        Err(error) => {
-            let name = String::from_str(rt.alloc(), name)?;
-            Err(Failure::File { name, error })
-        }
-    }
+pub fn file_bytes(rt: &HostRuntime, name: &str) -> Result<Vec<u8>, Failure>
+    ensures { IfErr result OfFile }
+{
+    fs::read(rt, name).or_else(|error| -> Result<Vec<u8>, Failure> {
+        let name = String::from_str(rt.alloc(), name)?;
+        Err(Failure::File { name, error })
+    })
 }
