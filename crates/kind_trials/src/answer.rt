@@ -1,7 +1,7 @@
 //! What calls answer, as the data files write it.
 use std::fmt;
 
-/// A value that has a spelling in the data files.
+/// A value that has a spelling in the data files. No `Display`: kinds of value are types of other crates.
 pub trait Shown {
     /// Writes the word for the value.
     fn show<W: fmt::Write>(&self, f: &mut fmt::Formatter<W>) -> fmt::Result;

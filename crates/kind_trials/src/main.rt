@@ -48,6 +48,7 @@ fn run_table<T: Shown + Drop, F: Fn(Global, &[&str]) -> anyhow::Result<Answer<T>
 {
     let file = format!(in rt.alloc(); "{table}.txt")?;
     let text = fs::read_to_string(rt, file.as_str())?;
+    // Each line prints and may fail, so they are counted one by one.
     let mut agreed = 0u64;
     for line in text.lines() {
         if run_line(rt, table, &answer, line).map_err(|error| anyhow!("{line}: {error}"))? {

@@ -10,7 +10,8 @@ ghost use Rattle.kinds.specs.Kind.{Laws, Named, Operations};
 use macros::parts::{Arithmetic, Comparison};
 
 /// A kind of value. Every answer is that of the operations' record, so it depends on the arguments alone; the laws are
-/// all that the code above a kind may rest on.
+/// all that the code above a kind may rest on. A W above 4096 is no misuse of the trait: whoever uses codes or names
+/// refuses such a kind, so that these methods alone ask for less.
 pub trait Kind: Copy {
     /// The form in which lent memory keeps a value.
     type Plain: Copy;

@@ -17,7 +17,7 @@ pub enum PackFault {
     Room(RoomFault),
 }
 
-/// What `pack` answers where it declines.
+/// What `pack` answers where it declines, a type of its own as `ReadRefusal` is.
 #[derive(Clone, Copy, Debug, PartialEq, Eq)]
 pub struct PackRefusal {
     pub call: Call,

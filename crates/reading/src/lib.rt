@@ -16,7 +16,8 @@ use macros::parts::{Edge, Header};
 
 pub mod file;
 
-/// What `read` answers where it declines.
+/// What `read` answers where it declines. A type for each call: `From` then knows the call, and of a generic type from
+/// another crate Rust allows no such `From`.
 #[derive(Clone, Copy, Debug, PartialEq, Eq)]
 pub struct ReadRefusal {
     pub call: Call,
@@ -82,7 +83,7 @@ pub fn read_edge(bytes: &[u8], header: Header, number: usize) -> Result<Edge, Ed
     Ok(edge)
 }
 
-/// Whether every edge can be read, or the first fault.
+/// Whether every edge can be read, or the first fault. It goes by number, since the iterator over edges rests on it.
 fn test_edges(bytes: &[u8], header: Header) -> Result<(), EdgeFault>
     requires { read_header bytes.now ≡ Ok header }
     ensures { headed bytes.now ≡ bind in_edges result (λ _. Ok header) }

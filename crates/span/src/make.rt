@@ -32,6 +32,7 @@ impl Span {
     {
         let low = i32::try_from(from).ok()?;
         let high = i32::try_from(to).ok()?;
+        // A closure under `then` does not know the order, which the type of a span asks.
         if low <= high {
             Some(Span { low, high })
         } else {
