@@ -1,8 +1,8 @@
 -- The laws of the kind exact.
-use Rattle.std.specs.Prelude.{◌≡◌, ℕ, ◌+◌, ◌*◌, ◌/◌, ◌%◌, ◌<◌, Bool, true, false, cond, ◌&&◌, ℤ, pos, Some, None, Option, FitsSigned, ◌==◌, int_rem, refl}
+use Rattle.std.specs.Prelude.{◌≡◌, ℕ, ◌+◌, ◌*◌, ◌/◌, ◌%◌, ◌<◌, Bool, true, false, cond, ◌&&◌, [], ℤ, pos, Some, None, Option, FitsSigned, ◌==◌, int_rem, refl}
 use Rattle.std.proofs.Common.{sym, ap, subst, ◌∙◌, arith, to_z, of_z}
 use Rattle.std.specs.Int.{w32}
-use Rattle.std.proofs.lemmas.Grind.{common_steps}
+use Rattle.std.proofs.lemmas.List.Elements.{All-cons, All-nil}
 use Rattle.std.proofs.lemmas.Int.{ints, of_z-to_z}
 use Rattle.std.proofs.lemmas.Bool.{and_parts, eqb-true}
 use Rattle.macros.specs.declared.parts.Arithmetic.{Arithmetic}
@@ -114,4 +114,4 @@ exact_laws = record {
 }
 
 pub exact_named : Named exact_ops
-exact_named = record { some_number = omega arith; digits = grind (arith, common_steps); short = λ _. omega arith }
+exact_named = record { some_number = omega arith; digits = All-cons (λ d. d < 16) 1 [] (omega arith) (All-nil (λ d. d < 16)); short = λ _. omega arith }

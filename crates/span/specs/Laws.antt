@@ -1,9 +1,9 @@
 -- The laws of the kind span.
-use Rattle.std.specs.Prelude.{◌≡◌, ℕ, ◌/◌, ◌%◌, ◌^◌, ◌<◌, Bool, true, false, cond, ◌&&◌, ℤ, pos, ◌+ℤ◌, ◌-ℤ◌, ◌≤ℤ◌, Some, None, ◌≢◌, int_le, int_rem, refl}
-use Rattle.std.proofs.Common.{sym, ap₂, subst, ◌∙◌, arith, of_z}
+use Rattle.std.specs.Prelude.{◌≡◌, ℕ, ◌/◌, ◌%◌, ◌^◌, ◌<◌, Bool, true, false, cond, ◌&&◌, [], ℤ, pos, ◌+ℤ◌, ◌-ℤ◌, ◌≤ℤ◌, Some, None, ◌≢◌, int_le, int_rem, refl}
+use Rattle.std.proofs.Common.{sym, ap, ap₂, subst, ◌∙◌, arith, of_z}
 use Rattle.std.specs.Int.Signed.{mag_rem, ≤ℤ_refl}
 use Rattle.std.specs.Int.{w32}
-use Rattle.std.proofs.lemmas.Grind.{common_steps}
+use Rattle.std.proofs.lemmas.List.Elements.{All-cons, All-nil}
 use Rattle.std.proofs.lemmas.Int.{ints, clamps, of_z-to_z}
 use Rattle.std.proofs.lemmas.Bool.{and_from, and_parts}
 use Rattle.macros.specs.declared.parts.Arithmetic.{Arithmetic}
@@ -106,7 +106,11 @@ code_decoded s =
     rw (l, h) (span_of_ends s _ _ (omega (arith, ints)) (omega (arith, ints)))
 
 decoded_code : (c : ℕ) (s : Span) → c < 2 ^ 64 → decoded c ≡ Some s → code_of s ≡ c
-decoded_code c s f e = let x = ends_of_span _ _ s e in grind (arith, ints, of_z-to_z)
+decoded_code c s f e =
+    let x = ends_of_span _ _ s e in
+    let l : of_z w32 s.low ≡ c / 4294967296 % 4294967296 = ap (of_z w32) x.0 ∙ of_z-to_z w32 (c / 4294967296 % 4294967296) (omega arith) in
+    let h : of_z w32 s.high ≡ c % 4294967296 = ap (of_z w32) x.1 ∙ of_z-to_z w32 (c % 4294967296) (omega arith) in
+    omega arith
 
 pub span_laws : Laws span_ops
 span_laws = record {
@@ -125,4 +129,4 @@ span_laws = record {
 }
 
 pub span_named : Named span_ops
-span_named = record { some_number = omega arith; digits = grind (arith, common_steps); short = λ _. omega arith }
+span_named = record { some_number = omega arith; digits = All-cons (λ d. d < 16) 2 [] (omega arith) (All-nil (λ d. d < 16)); short = λ _. omega arith }

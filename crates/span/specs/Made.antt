@@ -1,5 +1,5 @@
 -- What `span_of` answers, and what a span that it makes stands for.
-use Rattle.std.specs.Prelude.{◌≡◌, Bool, true, false, T, ℤ, ◌≤ℤ◌, Some, None, Option, MatchOption, int_le, refl}
+use Rattle.std.specs.Prelude.{◌≡◌, Bool, true, false, T, ℤ, pos, negsuc, ◌≤ℤ◌, Some, None, Option, MatchOption, int_le, refl}
 use Rattle.std.proofs.Common.{sym, ap, ◌∙◌, subst, arith, lt→ltb, ltb→lt}
 use denote.Struct.Record.{values_one}
 use Rattle.std.specs.Int.Signed.{le_z_yes, mag}
@@ -50,7 +50,10 @@ ends_of_span l h s e = subst (IsSpanOf l h) e (span_of_is l h)
 
 -- what lies between two numbers of 32 bits is one
 pub number_between : (l z h : ℤ) → l ≤ℤ z → z ≤ℤ h → Number l → Number h → Number z
-number_between l z h x y p q = grind (arith, ints)
+number_between l (pos z) (pos h) x y p q = omega (arith, ints)
+number_between l (pos z) (negsuc h) x y p q = omega (arith, ints)
+number_between (pos l) (negsuc z) h x y p q = omega (arith, ints)
+number_between (negsuc l) (negsuc z) h x y p q = omega (arith, ints)
 
 pub in_whole : (z : ℤ) → Number z → Between whole_range z
 in_whole z f = (omega (arith, ints), omega (arith, ints))
