@@ -1,5 +1,5 @@
 -- What is read: a field's bound, its parts, and the fields that are bytes.
-use Rattle.std.proofs.Common.{◌≡◌, ℕ, zero, suc, ◌+◌, ◌-◌, ◌*◌, ◌/◌, ◌%◌, ◌^◌, ◌<◌, List, get_or, sym, refl, ap, ◌∙◌, add-zero, add_assoc, add-suc, mul_assoc, pow-suc, arith}
+use Rattle.std.proofs.Common.{◌≡◌, ℕ, zero, suc, ◌+◌, ◌-◌, ◌*◌, ◌/◌, ◌%◌, ◌^◌, ◌<◌, List, get_or, sym, refl, ap, ◌∙◌, add-zero, add_assoc, add-suc, add-one, mul_assoc, pow-suc, arith}
 use Rattle.std.proofs.lemmas.Nat.{shr_high, mod_low}
 use Rattle.bits.specs.Field.{bit_at, field}
 
@@ -12,6 +12,11 @@ field_lt bs at (suc w) = let h = field_lt bs at w in rw pow-suc (omega arith)
 pub field_none : (bs : List ℕ) (at : ℕ) → field bs at 0 ≡ 0
 unfolding field
 field_none bs at = refl
+
+-- a field with one bit more
+pub field_more : (bs : List ℕ) (at w : ℕ) → field bs at (w + 1) ≡ field bs at w * 2 + bit_at bs (at + w)
+unfolding field
+field_more bs at w = rw add-one (omega arith)
 
 -- a field is its first bits, moved up, and then the rest
 pub field_split : (bs : List ℕ) (at a b : ℕ) → field bs at (a + b) ≡ field bs at a * 2 ^ b + field bs (at + a) b

@@ -2,7 +2,7 @@
 use Rattle.std.proofs.Common.{◌≡◌, ℕ, zero, suc, ◌+◌, ◌-◌, ◌*◌, ◌/◌, ◌%◌, ◌^◌, ◌<◌, ◌≤◌, ◌⊎◌, ◌≢◌, List, ◌∷◌, ◌++◌, length, get_or, set, take, drop, sym, refl, ap, ◌∙◌, ap₂, inl, inr, ⊎_elim, add-zero, append_assoc, add_assoc, add-suc, mul_assoc, pow-suc, add-one, arith, length-set, get_or-set_same, get_or-set_other, set-set}
 use borrow.Rule.Slice.PartMut.{put_mid}
 use Rattle.std.specs.Int.{byte_at, bytes_high_first}
-use Rattle.std.proofs.lemmas.List.{drop-drop, drop-set-lt, set-get_or, take_more_set, take-append-drop}
+use Rattle.std.proofs.lemmas.List.{drop-drop, drop-set-lt, set_comm, set-get_or, take_more_set, take-append-drop}
 use Rattle.std.proofs.lemmas.Nat.{mod_below, mod_low, mod-pow-add, pow-add, pow_pos, shr_high, shr-shr, shr_split}
 use Rattle.bits.specs.Field.{bit_at, field, put, put_bit, with_bit}
 use Rattle.bits.proofs.BitLaws.{bit_same, bit_other, bit_own, with_bit_next}
@@ -11,6 +11,11 @@ use Rattle.bits.proofs.FieldLaws.{field_lt, field_split}
 pub put_none : (bs : List ℕ) (at v : ℕ) → put bs at 0 v ≡ bs
 unfolding put
 put_none bs at v = refl
+
+-- a write of one bit more
+pub put_more : (bs : List ℕ) (at w v : ℕ) → put bs at (w + 1) v ≡ put_bit (put bs at w (v / 2)) (at + w) (v % 2)
+unfolding put
+put_more bs at w v = ap (λ k. put bs at k v) (add-one w)
 
 -- a write keeps the length
 pub length_put : (bs : List ℕ) (at w v : ℕ) → length (put bs at w v) ≡ length bs
@@ -129,10 +134,25 @@ put_part bs i lt h (suc j) v le =
     rw (ih, q, m, get_or-set_same, set-set) (ap (λ y. set bs i y) (byte_next (get_or bs i 0) v j (omega arith)))
 
 -- the write of a whole byte
-put_byte : (bs : List ℕ) (i v : ℕ) → i < length bs → get_or bs i 0 < 256 → put bs (8 * i) 8 v ≡ set bs i (v % 256)
+pub put_byte : (bs : List ℕ) (i v : ℕ) → i < length bs → get_or bs i 0 < 256 → put bs (8 * i) 8 v ≡ set bs i (v % 256)
 put_byte bs i v lt h =
     let e : v % 2 ^ 8 * 2 ^ (8 - 8) + get_or bs i 0 % 2 ^ (8 - 8) ≡ v % 256 = omega arith in
     put_part bs i lt h 8 v (omega arith) ∙ ap (λ y. set bs i y) e
+
+-- a byte set before a write
+set_put : (bs : List ℕ) (at w v i b : ℕ) → 8 * i + 8 ≤ at → set (put bs at w v) i b ≡ put (set bs i b) at w v
+unfolding put
+set_put bs at zero v i b h = refl
+set_put bs at (suc w) v i b h =
+    let ne : (at + w) / 8 ≢ i = omega arith in
+    rw (← set_put bs at w (v / 2) i b h, get_or-set_other) (set_comm (put bs at w (v / 2)) ((at + w) / 8) i _ b ne)
+
+-- the write of k bytes and of one before them
+pub put_before : (bs : List ℕ) (i k v : ℕ) → i < length bs → get_or bs i 0 < 256 → put bs (8 * i) (8 * (k + 1)) v ≡ set (put bs (8 * (i + 1)) (8 * k) v) i (v / 2 ^ (8 * k) % 256)
+put_before bs i k v lt h =
+    let e : 8 * (k + 1) ≡ 8 + 8 * k = omega arith in
+    let d : 8 * i + 8 ≡ 8 * (i + 1) = omega arith in
+    rw (e, put_split bs (8 * i) 8 (8 * k) v, put_byte bs i (v / 2 ^ (8 * k)) lt h, d) (sym (set_put bs (8 * (i + 1)) (8 * k) v i _ (omega arith)))
 
 pow_256 : (k : ℕ) → 2 ^ (8 * k) ≡ 256 ^ k
 pow_256 zero = refl

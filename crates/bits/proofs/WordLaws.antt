@@ -1,14 +1,14 @@
--- What the code computes on words of 8 bytes.
-use Rattle.std.proofs.Common.{◌≡◌, ℕ, ◌+◌, ◌-◌, ◌*◌, ◌/◌, ◌%◌, ◌^◌, ◌<◌, ◌≤◌, List, length, get_or, sym, ap, ◌∙◌, ap₂, add-zero, arith}
+-- What the code computes on words of up to 8 bytes, and one turn of each loop over bytes.
+use Rattle.std.proofs.Common.{◌≡◌, ℕ, ◌+◌, ◌-◌, ◌*◌, ◌/◌, ◌%◌, ◌^◌, ◌<◌, ◌≤◌, List, length, get_or, set, sym, ap, ◌∙◌, ap₂, add-zero, arith}
 use borrow.Rule.Slice.PartMut.{put_mid}
-use lib.Bits.{bit_and, bit_xor, xor_zero_l, xor_zero_r, xor_self, xor_assoc, xor_mod, xor_block}
+use lib.Bits.{bit_and, bit_or, bit_xor, xor_zero_l, xor_zero_r, xor_self, xor_assoc, xor_mod, xor_block}
 use Rattle.std.specs.Int.{w64, from_be_bytes, to_be_bytes}
 use Rattle.std.specs.List.{between}
 use Rattle.std.proofs.lemmas.List.Edits.{get_or-between}
-use Rattle.std.proofs.lemmas.Nat.{and_mask, mod_below, one_shl, pow_pos, shl_whole, shr_split}
+use Rattle.std.proofs.lemmas.Nat.{and_mask, mod_below, one_shl, or_shifted, pow_pos, shl_whole, shr_split}
 use Rattle.bits.specs.Field.{field, put}
-use Rattle.bits.proofs.FieldLaws.{field_byte, field_push}
-use Rattle.bits.proofs.PutLaws.{put_whole}
+use Rattle.bits.proofs.FieldLaws.{field_byte, field_lt, field_push, field_window}
+use Rattle.bits.proofs.PutLaws.{put_before, put_whole, put_window}
 
 -- the field of 8 bytes
 pub field_8 : (bs ys : List ℕ) (f : ℕ) → ((i : ℕ) → get_or bs i 0 < 256) → ys ≡ between f (f + 8) bs → from_be_bytes w64 ys ≡ field bs (8 * f) 64
@@ -27,6 +27,38 @@ field_8 bs ys f small is =
 -- the write of 8 bytes
 pub put_8 : (bs ys : List ℕ) (f k v : ℕ) → k ≡ 8 → ys ≡ to_be_bytes w64 v → f + 8 ≤ length bs → ((i : ℕ) → get_or bs i 0 < 256) → put_mid f k bs ys ≡ put bs (8 * f) 64 v
 put_8 bs ys f k v all is fits small = ap₂ (λ (n : ℕ) (zs : List ℕ). put_mid f n bs zs) all is ∙ sym (put_whole 8 bs f v fits (λ i h. small i))
+
+-- the bits from `at` on, by a word that begins before them
+pub field_from : (bs : List ℕ) (first size at width below word : ℕ) → 8 * first ≤ at → at + width + below ≡ 8 * first + size → word ≡ field bs (8 * first) size → word / 2 ^ below % 2 ^ width ≡ field bs at width
+field_from bs first size at width below word h e is =
+    let s : size ≡ at - 8 * first + width + below = omega arith in
+    let d : 8 * first + (at - 8 * first) ≡ at = omega arith in
+    ap (λ x. x / 2 ^ below % 2 ^ width) is ∙ field_window bs (8 * first) (at - 8 * first) width below size s ∙ ap (λ i. field bs i width) d
+
+-- a write from `at` on, by a word that begins before it
+pub put_from : (bs : List ℕ) (first size at width below word new value : ℕ) → 8 * first ≤ at → at + width + below ≡ 8 * first + size → at + width ≤ 8 * length bs
+    → word ≡ field bs (8 * first) size → new ≡ (word / 2 ^ below / 2 ^ width * 2 ^ width + value % 2 ^ width) * 2 ^ below + word % 2 ^ below
+    → put bs (8 * first) size new ≡ put bs at width value
+put_from bs first size at width below word new value h e fits is made =
+    let a = at - 8 * first in
+    let s : size ≡ a + width + below = omega arith in
+    let d : 8 * first + a ≡ at = omega arith in
+    rw (made, is) (put_window bs (8 * first) a width below value size s (omega arith) ∙ ap (λ i. put bs i width value) d)
+
+-- one turn of the loop that reads bytes
+pub field_next_byte : (bs : List ℕ) (first k x word : ℕ) → k < 8 → x ≡ get_or bs (first + k) 0 → get_or bs (first + k) 0 < 256 → word ≡ field bs (8 * first) (8 * k)
+    → bit_or (word * 2 ^ 8 % 2 ^ 64) x ≡ field bs (8 * first) (8 * (k + 1))
+field_next_byte bs first k x word lt byte small is =
+    let F = field bs (8 * first) (8 * k) in
+    let whole : F * 2 ^ 8 % 2 ^ 64 ≡ F * 2 ^ 8 = shl_whole F (8 * k) 8 64 (field_lt bs (8 * first) (8 * k)) (omega arith) in
+    rw (is, byte, whole, or_shifted F 8 (get_or bs (first + k) 0) small) (sym (field_push bs first k small))
+
+-- one turn of the loop that writes bytes, from the last one on
+pub put_byte_before : (bs cur : List ℕ) (i k v rest : ℕ) → i < length bs → get_or bs i 0 < 256 → rest ≡ v / 2 ^ (8 * k) → cur ≡ put bs (8 * (i + 1)) (8 * k) v
+    → set cur i (bit_and rest 255) ≡ put bs (8 * i) (8 * (k + 1)) v
+put_byte_before bs cur i k v rest lt small left is =
+    let low : bit_and (v / 2 ^ (8 * k)) 255 ≡ v / 2 ^ (8 * k) % 256 = and_mask _ 8 in
+    rw (is, left, low) (sym (put_before bs i k v lt small))
 
 -- what the code of `patched` computes: it changes the bits that differ
 pub patch_is : (x t w v : ℕ) → w ≤ 32 → t + w ≤ 64
