@@ -27,13 +27,17 @@ Mistaken Showing StartNumbers = ⊥
 Mistaken Showing ReadingNumbers = ⊥
 Mistaken Showing PathNumbers = ⊥
 
+-- it is this program that is misused, by a mistake that its words can have
+abbrev pub Misused : Program → Misuse → Type 0
+Misused p m = (m.program ≡ p) × Mistaken p m.mistake
+
 -- the program offers the command, or is the one that is misused
 abbrev pub Offered : Program → Result Command Misuse → Type 0
 Offered p (Ok Demo) = Unit {0}
 Offered p (Ok (Show f)) = Unit {0}
 Offered Showing (Ok (Run f o)) = ⊥
 Offered Driving (Ok (Run f o)) = Unit {0}
-Offered p (Err m) = (m.program ≡ p) × Mistaken p m.mistake
+Offered p (Err m) = Misused p m
 
 -- a run of the macro in this file, if the options are in order
 abbrev pub RunOf : Option Command → List ℕ → Type 0

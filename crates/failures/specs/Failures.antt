@@ -2,6 +2,8 @@
 use Rattle.std.specs.Prelude.{ℕ, List, Some, None, Option}
 use Rattle.failures.specs.declared.Failure.{Failure}
 use Rattle.failures.specs.declared.Failure.TheVariants.{Usage, File, Read, Pack, Drive, System}
+use Rattle.command_words.specs.declared.misuse.Program.TheVariants.{Showing, Driving}
+use Rattle.command_words.specs.Commands.{Misused}
 use Rattle.command_words.specs.Misuses.{misuse_text}
 use Rattle.drive_texts.specs.Halts.{halt_line}
 use Rattle.texts.specs.Faults.{pack_refusal_line, read_refusal_line}
@@ -33,18 +35,18 @@ OfFile (Pack r) = ⊥
 OfFile (Drive h) = ⊥
 OfFile (System e) = Unit {0}
 
--- no path was driven, so none was halted
+-- a failure of the program that shows: no path was driven, so none was halted, and no other program was misused
 abbrev pub OfShowing : Failure → Type 0
-OfShowing (Usage m) = Unit {0}
+OfShowing (Usage m) = Misused Showing m
 OfShowing (File name e) = Unit {0}
 OfShowing (Read r) = Unit {0}
 OfShowing (Pack r) = Unit {0}
 OfShowing (Drive h) = ⊥
 OfShowing (System e) = Unit {0}
 
--- no macro was packed, so none was refused
+-- a failure of the program that drives: no macro was packed, so none was refused, and no other program was misused
 abbrev pub OfDriving : Failure → Type 0
-OfDriving (Usage m) = Unit {0}
+OfDriving (Usage m) = Misused Driving m
 OfDriving (File name e) = Unit {0}
 OfDriving (Read r) = Unit {0}
 OfDriving (Pack r) = ⊥
