@@ -36,9 +36,22 @@ fn write<K: Spelled>(heap: Global, value: K, filler: u8) -> anyhow::Result<Strin
     Ok(hex::encode(heap, bytes)?)
 }
 
+/// The bytes that a word spells, two small hexadecimal digits for each.
+fn parse_bytes(heap: Global, word: &str) -> anyhow::Result<Vec<u8>> {
+    let digits = word.as_bytes();
+    let spelled = digits
+        .iter()
+        .all(|digit| matches!(digit, b'0'..=b'9' | b'a'..=b'f'));
+    ensure!(
+        spelled && digits.len() % 2 == 0,
+        "the word is not made of bytes in hexadecimal"
+    );
+    Ok(hex::decode(heap, word)?)
+}
+
 /// The value that is read among the bytes.
 fn read<K: Spelled>(heap: Global, word: &str) -> anyhow::Result<Option<K>> {
-    let bytes = hex::decode(heap, word)?;
+    let bytes = parse_bytes(heap, word)?;
     ensure!(
         bytes.len() == code_bytes::<K>()?,
         "the bytes are not as many as a code needs"
@@ -61,12 +74,13 @@ pub fn answer<K: Spelled>(heap: Global, call: &[&str]) -> anyhow::Result<Answer<
         ["write1", word] => Answer::Digits(write(heap, parse::<K>(*word)?, 0xff)?),
         ["read", word] => Answer::Value(read(heap, *word)?),
         ["only", number] => Answer::Value(Some(K::only(number.parse::<i32>()?))),
+        [_, _] => bail!("no call of this name has one argument"),
         ["recall", first, second] => Answer::Value(K::recall(K::parse_record(*first, *second)?)),
         ["covered", left, right] => Answer::Truth(parse::<K>(*left)?.covered(parse(*right)?)),
         [operator, left, right] => {
-            let operator = operator.parse::<Operator>()?;
-            Answer::Value(operate(operator, parse(*left)?, parse(*right)?))
+            let (left, right) = (parse(*left)?, parse(*right)?);
+            Answer::Value(operate(operator.parse::<Operator>()?, left, right))
         }
-        _ => bail!("no call on a kind is made of these words"),
+        _ => bail!("a call on a kind has one argument or two"),
     })
 }

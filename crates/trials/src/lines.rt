@@ -1,5 +1,5 @@
 //! What a line of a data file says: the macro that a call is given, and the answer that is expected of the call.
-use anyhow::{Context, anyhow, bail};
+use anyhow::{Context, anyhow, bail, ensure};
 use std::alloc::Global;
 
 /// The data files, each with lines of its own form.
@@ -54,9 +54,16 @@ impl DataFile {
     }
 }
 
-/// The bytes that a word spells in hexadecimal; `-` stands for none.
+/// The bytes that a word spells, two small hexadecimal digits for each; `-` stands for none.
 fn parse_bytes(heap: Global, word: &str) -> anyhow::Result<Vec<u8>> {
     let digits = if word == "-" { "" } else { word };
+    for pair in digits.as_bytes().chunks(2) {
+        ensure!(pair.len() == 2, "the macro has an odd number of digits");
+        let spelled = pair
+            .iter()
+            .all(|digit| matches!(digit, b'0'..=b'9' | b'a'..=b'f'));
+        ensure!(spelled, "a digit of the macro is not hexadecimal");
+    }
     Ok(hex::decode(heap, digits)?)
 }
 
