@@ -10,6 +10,7 @@ use failures::Failure;
 use macros::parts::{Comparison, Edge, Operand, Operation};
 use packing::{Macro, pack};
 use std::alloc::Global;
+use std::fmt;
 
 /// The length of a file with the most edges: 4 + 12 * 511 bytes.
 const LONGEST: usize = 6136;
@@ -29,7 +30,7 @@ fn show_packed(rt: &HostRuntime, name: &str, source: Macro) -> Result<(), Failur
     ensures { IfErr result OfShowing }
 {
     let bytes = packed(rt.alloc(), source)?;
-    let digits = hex::encode(rt.alloc(), bytes.as_slice())?;
+    let digits = hex::encode(rt.alloc(), bytes.as_slice()).map_err(|_| fmt::Error)?;
     let lines = show_lines(rt.alloc(), bytes.as_slice())?;
     println!(rt; "macro {name}")?;
     println!(rt; "packed {digits}")?;

@@ -6,6 +6,7 @@ ghost use Rattle.std.specs.Prelude.{IfErr};
 use failures::{Failure, file_bytes};
 use reading::file::MacroFile;
 use std::alloc::Global;
+use std::fmt;
 use texts::lines::macro_lines;
 
 /// The lines that these bytes are shown by, or the refusal of `read`.
@@ -14,7 +15,8 @@ pub fn show_lines(heap: Global, bytes: &[u8]) -> Result<String, Failure>
     ensures failure { IfErr result OfShowing }
 {
     let file = MacroFile::open(bytes)?;
-    let lines = macro_lines(heap, file)?;
+    // Where memory for a text runs out, what people read is that the text could not be written.
+    let lines = macro_lines(heap, file).map_err(|_| fmt::Error)?;
     Ok(lines)
 }
 

@@ -12,6 +12,7 @@ use reading::file::MacroFile;
 use runs::drives::{Driver, drive};
 use runs::halts::DriveHalt;
 use std::alloc::{AllocError, Global};
+use std::fmt;
 use std::str::FromStr;
 
 /// The numbers in a word, with commas between them; an empty word has none.
@@ -65,7 +66,10 @@ pub fn run(rt: &HostRuntime, file: &str, options: RunOptions) -> Result<(), Fail
         edges: edges.as_slice(),
         readings: readings.as_slice(),
     };
-    let lines = drive_lines(heap, driver, path.as_slice(), start.as_slice())?;
+    // Where memory for a text runs out, what people read is that the text could not be written.
+    let lines = drive_lines(heap, driver, path.as_slice(), start.as_slice()).map_err(
+        |_| fmt::Error,
+    )?;
     rt.print(lines)?;
     let place = answer?;
     println!(rt; "end place {place}")?;
