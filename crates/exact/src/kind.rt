@@ -37,18 +37,25 @@ impl Kind for Exact {
     }
 
     fn narrow(comparison: Comparison, first: Exact, second: Exact) -> Option<Exact> {
-        match (comparison, first, second) {
-            (_, Exact::Only(number), Exact::Only(other)) => {
+        // The second value is asked for before the others, which makes fewer tests than a match on all three.
+        let Exact::Only(other) = second else {
+            // A comparison with unknown never fails.
+            return Some(first);
+        };
+        match (first, comparison) {
+            (Exact::Only(number), _) => {
                 compare(comparison, number.value, other.value).then_some(first)
             }
-            (Comparison::Equal, Exact::Unknown, Exact::Only(_)) => Some(second),
-            // A comparison with unknown never fails.
-            _ => Some(first),
+            (Exact::Unknown, Comparison::Equal) => Some(second),
+            (Exact::Unknown, _) => Some(first),
         }
     }
 
     fn covered(self, other: Exact) -> bool {
-        other == Exact::Unknown || self == other
+        match other {
+            Exact::Only(_) => self == other,
+            Exact::Unknown => true,
+        }
     }
 
     fn keep(self) -> ExactRecord {

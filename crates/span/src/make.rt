@@ -30,14 +30,13 @@ impl Span {
     pub(crate) fn between(from: i64, to: i64) -> Option<Span>
         ensures { result ≡ span_of from to }
     {
+        // The order is tested first, since a narrowing fails by it far more often than by the range.
+        if from > to {
+            return None;
+        }
         let low = i32::try_from(from).ok()?;
         let high = i32::try_from(to).ok()?;
-        // A closure under `then` does not know the order, which the type of a span asks.
-        if low <= high {
-            Some(Span { low, high })
-        } else {
-            None
-        }
+        Some(Span { low, high })
     }
 
     /// The span with these ends, and the span of every number where there is none.

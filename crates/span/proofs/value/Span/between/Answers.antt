@@ -19,14 +19,11 @@ returns-in_err-low c = c.from_residual.ensures ∙ sym (span_of_none _ _ (λ o f
 pub returns-in_err-high : goal.returns-in_err-high
 returns-in_err-high c = c.from_residual-in_err-high.ensures ∙ sym (span_of_none _ _ (λ o f g. let m = missed _ _ c.try_from-2.ensures c.in_err-high.ensures.value in m (omega (arith, ints))))
 
-pub returns-then-low-high : goal.returns-then-low-high
-returns-then-low-high c =
+pub returns : goal.returns
+returns c =
     let l = taken _ _ _ c.try_from.ensures c.in_ok-low.ensures.value in
     let h = taken _ _ _ c.try_from-2.ensures c.in_ok-high.ensures.value in
     sym (span_of_ends _ _ _ (omega (arith, ints)) (omega (arith, ints)))
 
-pub returns-else-low-high : goal.returns-else-low-high
-returns-else-low-high c =
-    let l = taken _ _ _ c.try_from.ensures c.in_ok-low.ensures.value in
-    let h = taken _ _ _ c.try_from-2.ensures c.in_ok-high.ensures.value in
-    sym (span_of_none _ _ (λ o f g. omega (arith, ints)))
+pub returns-then-from-to : goal.returns-then-from-to
+returns-then-from-to c = sym (span_of_none _ _ (λ o f g. omega (arith, ints)))
