@@ -11,6 +11,20 @@ use Rattle.exact.specs.declared.value.Exact.{Exact}
 use Rattle.exact.specs.declared.value.Exact.TheVariants.{Only, Unknown}
 use Rattle.exact.specs.Exact.{decoded, kept, read_as, recalled, recalled_as, written}
 
+-- the mark is the highest bit
+pub mark_of : (bs : List ℕ) (at : ℕ) → field bs at 33 / 4294967296 ≡ field bs at 1
+mark_of bs at =
+    let s : field bs at 33 ≡ field bs at 1 * 4294967296 + field bs (at + 1) 32 = field_split bs at 1 32 in
+    let l : field bs (at + 1) 32 < 4294967296 = field_lt bs (at + 1) 32 in
+    omega arith
+
+-- and the number is the rest
+pub number_of : (bs : List ℕ) (at : ℕ) → field bs at 33 % 4294967296 ≡ field bs (at + 1) 32
+number_of bs at =
+    let s : field bs at 33 ≡ field bs at 1 * 4294967296 + field bs (at + 1) 32 = field_split bs at 1 32 in
+    let l : field bs (at + 1) 32 < 4294967296 = field_lt bs (at + 1) 32 in
+    omega arith
+
 -- the code of a value is the mark and the number of its record
 pub written_kept : (v : Exact) → written v ≡ from_bool (kept v).known * 4294967296 + of_z w32 (kept v).number
 written_kept (Only k) = omega arith
@@ -32,9 +46,4 @@ recalled_decoded (suc zero) n l = refl
 recalled_decoded (suc (suc m)) n l = absurd (omega arith)
 
 pub recalled_field : (bs : List ℕ) (at : ℕ) → recalled (record { number = to_z w32 (field bs (at + 1) 32); known = field bs at 1 == 1 }) ≡ read_as (field bs at 33)
-recalled_field bs at =
-    let s : field bs at 33 ≡ field bs at 1 * 4294967296 + field bs (at + 1) 32 = field_split bs at 1 32 in
-    let l : field bs (at + 1) 32 < 4294967296 = field_lt bs (at + 1) 32 in
-    let mark : field bs at 1 ≡ field bs at 33 / 4294967296 = omega arith in
-    let number : field bs (at + 1) 32 ≡ field bs at 33 % 4294967296 = omega arith in
-    recalled_decoded _ _ (field_lt bs at 1) ∙ ap₂ decoded mark number
+recalled_field bs at = recalled_decoded _ _ (field_lt bs at 1) ∙ ap₂ decoded (sym (mark_of bs at)) (sym (number_of bs at))

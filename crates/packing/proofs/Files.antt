@@ -63,13 +63,16 @@ pub packed_bytes : (m : Macro) → Bytes (packed m)
 packed_bytes m = edges_bytes _ 0 m.edges (fields_bytes _ 0 (header_list (header_fields m)) (zero_bytes (file_length (length m.edges))))
 
 -- the first bytes made 0, and then the header and the edges written: the macro's bytes, and what was beyond them
-pub macro_written : (m : Macro) (out first headed edged : List ℕ) (f : HeaderFields) → file_length (length m.edges) ≤ length out
-    → first ≡ replicate (length (take (file_length (length m.edges)) out)) 0
-    → f ≡ header_fields m → headed ≡ put_fields (first ++ drop (file_length (length m.edges)) out) 0 (header_list f) → edged ≡ put_edges headed 0 m.edges
+pub macro_written : (m : Macro) (out cleared headed edged : List ℕ) (f : HeaderFields)
+    → cleared ≡ replicate (file_length (length m.edges)) 0 ++ drop (file_length (length m.edges)) out
+    → f ≡ header_fields m → headed ≡ put_fields cleared 0 (header_list f) → edged ≡ put_edges headed 0 m.edges
     → edged ≡ packed m ++ drop (file_length (length m.edges)) out
-macro_written m out first headed edged f room c h p e =
+macro_written m out cleared headed edged f c h p e =
     let n = file_length (length m.edges) in
     let l : length (replicate {A = ℕ} n 0) ≡ n = length-replicate n 0 in
-    let z : first ≡ replicate n 0 = c ∙ ap (λ k. replicate k 0) (length-take-le n out room) in
-    e ∙ ap (λ b. put_edges b 0 m.edges) (p ∙ ap₂ (λ (b : List ℕ) (x : HeaderFields). put_fields (b ++ drop n out) 0 (header_list x)) z h)
+    e ∙ ap (λ b. put_edges b 0 m.edges) (p ∙ ap₂ (λ (b : List ℕ) (x : HeaderFields). put_fields b 0 (header_list x)) c h)
     ∙ macro_append (replicate n 0) (drop n out) m (omega arith)
+
+-- as many bytes as the file has are filled with 0, where there is room for it
+pub first_filled : (n : ℕ) (out first : List ℕ) → n ≤ length out → first ≡ replicate (length (take n out)) 0 → first ++ drop n out ≡ replicate n 0 ++ drop n out
+first_filled n out first room c = ap (λ b. b ++ drop n out) (c ∙ ap (λ k. replicate k 0) (length-take-le n out room))

@@ -55,7 +55,7 @@ unfolding Narrow
 numbers_narrow n a b form t l r le ha hb hf ht hl hr =
     (ha, (hb, (omega arith, (ht, (mark_lt l, (number_lt n l le hl, (mark_lt r, (number_lt n r le hr, (omega arith, tt)))))))))
 
-form_lt : (f : EdgeForm) → form_number f < 12
+pub form_lt : (f : EdgeForm) → form_number f < 12
 form_lt set_form = omega arith
 form_lt (compute_form Add) = omega arith
 form_lt (compute_form Subtract) = omega arith

@@ -15,8 +15,10 @@ use Rattle.macros.specs.declared.parts.Operation.{Operation}
 use Rattle.macros.specs.Macro.{Macro}
 use Rattle.macros.specs.Number.{Number}
 use Rattle.macros.specs.Range.{EdgeInRange, InRange, OperandInRange, OperationInRange}
+use Rattle.numbers.specs.Arithmetic.{computed}
 use Rattle.numbers.specs.Rules.{Gives}
 use Rattle.numbers.proofs.Remaining.{remains_int_rem}
+use Rattle.numbers.proofs.Told.{computed_given}
 use Rattle.runs.specs.Promises.{Driven, DrivenRuns, NumbersKept, RunsDriven, StartReached}
 use Rattle.runs.specs.Runs.{Effect, Follows, Run, Start, State, Step, Takes, computes, ends, goes, operand_number, passes, reads, sets, starts, state, step, takes, takes_on}
 
@@ -67,6 +69,9 @@ gives_number Add x y z n w = w.number
 gives_number Subtract x y z n w = w.number
 gives_number Multiply x y z n w = w.number
 gives_number Remainder x y z n r = subst Number (remains_int_rem x y z r) (omega (arith, mag_rem x y))
+
+pub computed_number : (f : Arithmetic) (x y z : ℤ) → Number x → computed f x y ≡ Some z → Number z
+computed_number f x y z n e = gives_number f x y z n (computed_given f x y z e)
 
 module _ (m : Macro) (here : InRange m) where
   edge_in : (j : ℕ) (e : Edge) → slice_get m.edges j ≡ Some e → EdgeInRange m.variables m.places e
