@@ -30,6 +30,7 @@ fn show_packed(rt: &HostRuntime, name: &str, source: Macro) -> Result<(), Failur
     ensures { IfErr result OfShowing }
 {
     let bytes = packed(rt.alloc(), source)?;
+    // Where memory for a text runs out, what people read is that the text could not be written.
     let digits = hex::encode(rt.alloc(), bytes.as_slice()).map_err(|_| fmt::Error)?;
     let lines = show_lines(rt.alloc(), bytes.as_slice())?;
     println!(rt; "macro {name}")?;
